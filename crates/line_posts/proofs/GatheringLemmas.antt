@@ -169,6 +169,15 @@ way_next history next further next_further rooms next_rooms p e within h first e
       ];
     })
 
+-- a way begins where it is, and what goes on from there goes on
+pub way_here : (old history : List Process) (old_further further : List (List Event)) (rooms : List ℕ) → IsOnWay old old_further history rooms further → IsOnWay history further history rooms further
+way_here old history old_further further rooms h = record { own = h.own; may = h.may; long = refl; incarnation = λ p. refl; same = λ p. refl; room = h.room }
+
+pub way_then : (old history next : List Process) (old_further further next_further : List (List Event)) (rooms next_rooms : List ℕ)
+    → IsOnWay old old_further history rooms further → IsOnWay history further next next_rooms next_further → IsOnWay old old_further next next_rooms next_further
+way_then old history next old_further further next_further rooms next_rooms a b =
+    record { own = b.own; may = b.may; long = b.long ∙ a.long; incarnation = λ p. b.incarnation p ∙ a.incarnation p; same = λ p. b.same p ∙ a.same p; room = b.room }
+
 -- what is gathered of a worker begins with what the collector has of it
 pub gathered_known : (failed : Bool) (post : PostView) (popped known : List Event) → IsPost post → popped ++ known ≡ post.line.items → (rest : List Event) × (gathered_tape failed post ≡ (opening_tape post ++ popped) ++ rest)
 gathered_known true post popped known h e = (known, ap (λ t. opening_tape post ++ t) (sym e) ∙ sym (append_assoc (opening_tape post) popped known))

@@ -33,17 +33,6 @@ fn meet_self(post: &mut Post)
     let _ = meet(&mut post.outs, p, &mut post.ins, p);
 }
 
-/// What lies on both rings between two workers.
-fn meet_both(one: &mut Post, other: &mut Post)
-    requires { AreLinkedTwo one.old other.old }
-    ensures one { one.new ≡ one.old }
-    ensures other { other.new ≡ other.old }
-    ensures met { AreMetTwo one.old other.old × AreMetTwo other.old one.old }
-{
-    meet_two(one, other);
-    meet_two(other, one);
-}
-
 /// What lies on the rings between one worker and each of the others.
 fn meet_each(one: &mut Post, others: &mut Vec<Post>)
     requires linked { (j : ℕ) (other : PostView) → slice_get others.old.items j ≡ Some other
@@ -56,7 +45,8 @@ fn meet_each(one: &mut Post, others: &mut Vec<Post>)
 {
     for j in 0..others.len() {
         let other = &mut others[j];
-        meet_both(one, other);
+        meet_two(one, other);
+        meet_two(other, one);
     }
 }
 

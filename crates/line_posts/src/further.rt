@@ -1,6 +1,6 @@
 //! What the collector has not taken of the workers when they are back, and how it is added.
-ghost use Rattle.std.specs.Prelude.{◌≡◌, ◌≢◌, ◌<◌, ◌≤◌, ◌+◌, ◌++◌, [], ℕ, List, IfOk, IsTrue, Some};
-ghost use Rattle.std.specs.Prelude.{false, length, take, drop};
+ghost use Rattle.std.specs.Prelude.{◌≡◌, ◌≢◌, ◌<◌, ◌≤◌, ◌+◌, ◌++◌, [], ℕ, List, IfOk, Some};
+ghost use Rattle.std.specs.Prelude.{length, take, drop};
 ghost use Rattle.std.specs.VecDeque.{deque_items};
 ghost use Rattle.line_tape.specs.declared.events.Event.{Event};
 ghost use Rattle.line_tape.specs.History.{process_at, tape_at, incarnation_at};
@@ -113,32 +113,9 @@ pub(crate) fn further_of_all(
         let p = ProcId::try_new(r, n).unwrap();
         let post = &mut posts[r as usize];
         let events = further_of(alloc, catalogue, lines, post, p, failed.has(p))?;
-        further.push(events)?;
+        further.push_reserved(events);
     }
     Ok(further)
-}
-
-/// Adds the next of the further events of a process, if there is one.
-fn add_next(catalogue: &mut Catalogue, further: &mut Vec<VecDeque<Event>>, p: ProcId) -> bool
-    requires within { p < length catalogue.old.processes }
-    requires way { IsOnWay catalogue.old.processes (rows_of further.old.items)
-        catalogue.old.processes catalogue.old.rooms (rows_of further.old.items) }
-    ensures way { IsOnWay catalogue.old.processes (rows_of further.old.items)
-        catalogue.new.processes catalogue.new.rooms (rows_of further.new.items) }
-    ensures marks { catalogue.new.marks ≡ catalogue.old.marks }
-    ensures more { IsTrue result → length (row_at (rows_of further.new.items) p)
-        < length (row_at (rows_of further.old.items) p) }
-    ensures none { result ≡ false → row_at (rows_of further.new.items) p ≡ [] }
-    ensures others { (k : ℕ) → k ≢ p
-        → row_at (rows_of further.new.items) k ≡ row_at (rows_of further.old.items) k }
-{
-    let at = p.get() as usize;
-    if !keeps(further, at) {
-        return false;
-    }
-    let event = take_kept(further, at);
-    catalogue.append(p, event);
-    true
 }
 
 /// Adds the further events of a process.
@@ -153,34 +130,15 @@ fn add_events(catalogue: &mut Catalogue, further: &mut Vec<VecDeque<Event>>, p: 
     ensures others { (k : ℕ) → k ≢ p
         → row_at (rows_of further.new.items) k ≡ row_at (rows_of further.old.items) k }
 {
-    'events: loop {
-        if !add_next(catalogue, further, p) {
-            return;
-        }
+    let at = p.get() as usize;
+    'events: while keeps(further, at) {
+        let event = take_kept(further, at);
+        catalogue.append(p, event);
     }
 }
 
-/// Adds the further events of each process, in room that was made for them.
-fn add_all(catalogue: &mut Catalogue, further: &mut Vec<VecDeque<Event>>)
-    requires way { IsOnWay catalogue.old.processes (rows_of further.old.items)
-        catalogue.old.processes catalogue.old.rooms (rows_of further.old.items) }
-    ensures marks { catalogue.new.marks ≡ catalogue.old.marks }
-    ensures count { length catalogue.new.processes ≡ length catalogue.old.processes }
-    ensures each { (p : ℕ) → process_at catalogue.new.processes p
-        ≡ record {
-          incarnation = incarnation_at catalogue.old.processes p;
-          tape = tape_at catalogue.old.processes p ++ row_at (rows_of further.old.items) p;
-        } }
-{
-    let n = catalogue.n();
-    for r in 0..n {
-        let p = ProcId::try_new(r, n).unwrap();
-        add_events(catalogue, further, p);
-    }
-}
-
-/// Adds the further events of each process, and keeps what is in transit at the line that is
-/// planned where these failed, so that later plans look at little.
+/// Adds the further events of each process, in room that was made for them, and keeps what is in
+/// transit at the line that is planned where these failed, so that later plans look at little.
 pub(crate) fn add_and_keep(
     alloc: Global,
     catalogue: &mut Catalogue,
@@ -197,6 +155,10 @@ pub(crate) fn add_and_keep(
           tape = tape_at catalogue.old.processes p ++ row_at (rows_of further.old.items) p;
         } }
 {
-    add_all(catalogue, further);
+    let n = catalogue.n();
+    for r in 0..n {
+        let p = ProcId::try_new(r, n).unwrap();
+        add_events(catalogue, further, p);
+    }
     let _ = keep_planned(alloc, catalogue, failed);
 }

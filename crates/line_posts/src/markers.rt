@@ -1,6 +1,6 @@
 //! Markers on the rings.
 ghost use Rattle.std.specs.Prelude.{◌≡◌, ◌≢◌, ◌<◌, ◌∷◌, ℕ, length};
-ghost use Rattle.line_rings.specs.Ends.{out_ends, in_ends, known_at, free_at, with_item};
+ghost use Rattle.line_rings.specs.Ends.{out_ends, in_ends, known_at, with_item};
 ghost use Rattle.line_rings.specs.Ends.{HasRoomBelow};
 ghost use Rattle.line_posts.specs.Receipts.{BeginsWithMarker};
 ghost use Rattle.line_posts.specs.Markers.{with_others};
@@ -10,34 +10,15 @@ use crate::parcels::Parcel;
 use line_rings::{push_known, take_at};
 use rtrb::{Consumer, Producer};
 
-fn marker(round: u32) -> Parcel
-    ensures { result ≡ Marker round }
-{
-    Parcel::Marker { round }
-}
-
-/// Puts the marker of a round on the ring to one process, but not on the own one.
-fn push_other(outs: &mut Vec<Producer<Parcel>>, me: usize, q: usize, round: u32)
-    requires within { q < length outs.old.items }
-    requires room { 0 < free_at outs.old.items q }
-    ensures own { q ≡ me → out_ends outs.new.items ≡ out_ends outs.old.items }
-    ensures other { q ≢ me
-        → out_ends outs.new.items ≡ with_item (out_ends outs.old.items) q (Marker round) }
-    ensures others { (k : ℕ) → k ≢ q → free_at outs.new.items k ≡ free_at outs.old.items k }
-{
-    if q == me {
-        return;
-    }
-    push_known(outs, q, marker(round));
-}
-
 /// Puts the marker of a round on the ring to each other process, where slots are known to be free.
 pub(crate) fn push_markers(outs: &mut Vec<Producer<Parcel>>, me: usize, round: u32)
     requires { HasRoomBelow (length outs.old.items) outs.old.items }
     ensures { out_ends outs.new.items ≡ with_others (out_ends outs.old.items) me (Marker round) }
 {
     for q in 0..outs.len() {
-        push_other(outs, me, q, round);
+        if q != me {
+            push_known(outs, q, Parcel::Marker { round });
+        }
     }
 }
 

@@ -1,7 +1,6 @@
 //! What a worker takes: messages and markers.
 ghost use Rattle.std.specs.Prelude.{◌≡◌, ◌≢◌, ◌<◌, ◌≤◌, ◌∷◌, ◌++◌, ℕ, List, [], IfOk, IfErr, OnOk};
-ghost use Rattle.std.specs.Prelude.{OnErr, MatchOption, length, map};
-ghost use Rattle.std.specs.VecDeque.{deque_items};
+ghost use Rattle.std.specs.Prelude.{OnErr, MatchOption, length};
 ghost use mathlib.Core.List.{IsPrefix};
 ghost use Rattle.line_tape.specs.History.{Process};
 ghost use Rattle.line_tape.specs.declared.events.Event.{Event};
@@ -11,7 +10,7 @@ ghost use Rattle.line_journals.specs.Journals.{IsSameJournal};
 ghost use Rattle.line_posts.specs.Parcels.{packet_name};
 ghost use Rattle.line_posts.specs.Posts.{PostView, post_of};
 ghost use Rattle.line_posts.specs.Receipts.{BeginsWithMarker, BeginsWithMessage, HasReceived};
-ghost use Rattle.line_posts.specs.Receipts.{HasOnlySeen, IsMessageParcel, StillSees};
+ghost use Rattle.line_posts.specs.Receipts.{HasOnlySeen, StillSees};
 ghost use Rattle.line_posts.specs.Generations.{IsSamePost};
 ghost use Rattle.line_posts.specs.Refusals.{IsNotReceived, MayReceive};
 ghost use Rattle.line_posts.specs.declared.parcels.Packet.{Packet};
@@ -29,7 +28,6 @@ use line_names::{Body, MsgName, ProcId};
 use line_rings::{front_at, has_room, look_at, take_at};
 use line_tape::{MOST_EVENTS, MOST_STATE, State};
 use rtrb::{Consumer, Producer};
-use std::collections::VecDeque;
 use std::snapshot::Snapshot;
 
 /// What a worker received.
@@ -54,17 +52,6 @@ fn round_first(ins: &Vec<Consumer<Parcel>>, p: usize) -> Option<u32>
     }
 }
 
-/// The packet of a message.
-fn packet_of(parcel: Parcel) -> Packet
-    requires { IsMessageParcel parcel }
-    ensures { parcel ≡ Message result }
-{
-    match parcel {
-        Parcel::Message { packet } => packet,
-        Parcel::Marker { .. } => unreachable!(),
-    }
-}
-
 /// The name of the known item that is first, a message from a process.
 fn name_first(ins: &Vec<Consumer<Parcel>>, p: usize, from: ProcId) -> MsgName
     requires within { p < length ins.now.items }
@@ -86,20 +73,10 @@ fn take_packet(ins: &mut Vec<Consumer<Parcel>>, p: usize) -> Packet
     ensures first { known_at ins.old.items p ≡ Message result ∷ known_at ins.new.items p }
     ensures others { (k : ℕ) → k ≢ p → known_at ins.new.items k ≡ known_at ins.old.items k }
 {
-    let parcel = take_at(ins, p);
-    packet_of(parcel)
-}
-
-/// The name of the first of the replays kept of a process.
-fn name_kept(kept: &Vec<VecDeque<Packet>>, p: usize, from: ProcId) -> MsgName
-    requires within { p < length kept.now.items }
-    requires some { 0 < length (row_at (map deque_items kept.now.items) p) }
-    ensures { (packet : Packet) × (rest : List Packet)
-        × (row_at (map deque_items kept.now.items) p ≡ packet ∷ rest)
-        × (result ≡ packet_name from packet) }
-{
-    let packet = first_kept(kept, p);
-    message_name(from, packet.inc, packet.number)
+    match take_at(ins, p) {
+        Parcel::Message { packet } => packet,
+        Parcel::Marker { .. } => unreachable!(),
+    }
 }
 
 /// The name and the body of a packet from a process.
@@ -213,7 +190,8 @@ impl Post {
             return Err(ReceiveWhy::TapeFull);
         }
         let p = from.get() as usize;
-        let name = name_kept(&self.kept, p, from);
+        let first = first_kept(&self.kept, p);
+        let name = message_name(from, first.inc, first.number);
         if self.journal.receive(name).is_err() {
             return Err(ReceiveWhy::OutOfMemory);
         }

@@ -1,7 +1,7 @@
 //! What links hold where a generation begins.
-ghost use Rattle.std.specs.Prelude.{◌≡◌, ◌<◌, ◌≤◌, ◌+◌, ◌-◌, ◌++◌, ◌∷◌, [], ℕ, All, List};
+ghost use Rattle.std.specs.Prelude.{◌≡◌, ◌<◌, ◌≤◌, ◌+◌, ◌++◌, ◌∷◌, [], ℕ, All, List};
 ghost use Rattle.std.specs.Prelude.{IfOk, None, OnOk, length, map, replicate, slice_index_or};
-ghost use Rattle.std.specs.Prelude.{slice_get, slice_set, IsTrue, Some, false};
+ghost use Rattle.std.specs.Prelude.{slice_set, Some};
 ghost use Rattle.line_names.specs.declared.messages.MsgName.{MsgName};
 ghost use Rattle.line_tape.specs.Event.{sends, IsShort, NamesBelow};
 ghost use Rattle.line_tape.specs.Restart.{restarted_history};
@@ -20,7 +20,7 @@ ghost use Rattle.line_posts.specs.Replays.{AreSquare, IsNoted};
 
 use crate::parcels::Packet;
 use line_journals::Journal;
-use line_names::{Body, MOST_BODY, MsgName, ProcId};
+use line_names::{Body, MOST_BODY, MsgName};
 use line_plan::Plan;
 use line_tape::{EventRef, History, Tape};
 use std::alloc::{AllocError, Global};
@@ -128,22 +128,6 @@ pub(crate) fn no_packets_yet(
     Ok(packets)
 }
 
-/// Takes one off the messages to process q that are looked for, if any is.
-fn take_off(counts: &mut Vec<usize>, q: usize) -> bool
-    requires { q < length counts.old.items }
-    ensures some { IsTrue result → (0 < slice_index_or counts.old.items q 0)
-        × (counts.new.items ≡ slice_set counts.old.items q
-        (slice_index_or counts.old.items q 0 - 1)) }
-    ensures none { result ≡ false → (slice_index_or counts.old.items q 0 ≡ 0)
-        × (counts.new.items ≡ counts.old.items) }
-{
-    if counts[q] == 0 {
-        return false;
-    }
-    counts[q] -= 1;
-    true
-}
-
 /// Puts a packet from process p before those that wait for q.
 fn put_packet(
     packets: &mut Vec<Vec<VecDeque<Packet>>>,
@@ -195,9 +179,10 @@ fn note_sent(
     match event {
         EventRef::Send { to, inc, body } => {
             let q = to.get() as usize;
-            if !take_off(counts, q) {
+            if counts[q] == 0 {
                 return Ok(0);
             }
+            counts[q] -= 1;
             put_packet(packets, q, p, packet(*inc, number, body))?;
             Ok(1)
         }

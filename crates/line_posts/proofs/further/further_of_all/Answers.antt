@@ -1,6 +1,6 @@
 use Rattle.std.proofs.Common.{rules, refl, ◌≡◌, ◌∙◌, ◌++◌, ◌∷◌, [], ◌≤◌, length, get_or, sym, ap, subst, arith}
 use Rattle.std.specs.VecDeque.{deque_items}
-use Rattle.std.proofs.lemmas.List.{map-append}
+use Rattle.std.proofs.lemmas.List.{length-map, map-append}
 use Rattle.std.proofs.lemmas.Result.{OkIff-at_ok}
 use Rattle.line_names.specs.Sets.{is_member}
 use Rattle.line_tape.specs.History.{tape_at}
@@ -45,9 +45,10 @@ loop-r-preserved c =
       lines = e.lines ∙ i.lines;
       seen = knows_then (known_rows c.args.lines.now.items) c.loop-r.lines.items c.further_of.new.lines.items i.seen e.seen;
       posts = set_back c.loop-r.posts.items c.args.posts.now.items r post c.further_of.new.post i.posts c.index_mut-post.ensures.value e.post;
-      further = further_more r failed c.args.catalogue.now.processes c.loop-r.catalogue.rooms c.further_of.new.catalogue.rooms c.args.posts.now.items (rows_of c.loop-r.further.items) (rows_of c.push.new.self.items) post more
-          i.further at (ap rows_of c.in_ok-push.ensures.items ∙ map-append deque_items c.loop-r.further.items (c.in_ok-events.events ∷ [])) all
+      further = further_more r failed c.args.catalogue.now.processes c.loop-r.catalogue.rooms c.further_of.new.catalogue.rooms c.args.posts.now.items (rows_of c.loop-r.further.items) (rows_of c.push_reserved.new.self.items) post more
+          i.further at (ap rows_of c.push_reserved.ensures.items ∙ map-append deque_items c.loop-r.further.items (c.in_ok-events.events ∷ [])) all
           (subst (λ v. length more ≤ get_or c.further_of.new.catalogue.rooms v 0) p e.room) (λ q ne. e.others q (λ x. ne (x ∙ p)));
+      room = (let r = i.room in let k = c.push_reserved.ensures.capacity in omega (arith, r, k));
     }
 
 pub returns-in_err-further-clause-seen : goal.returns-in_err-further-clause-seen
@@ -61,12 +62,20 @@ loop-r-init c = record {
   seen = knows_self c.args.lines.now.items;
   posts = refl;
   further = search rules;
+  room = (let r = c.in_ok-further.ensures.capacity in let n = c.n-n.ensures.value in omega (arith, r, n));
 }
 
 pub returns-in_err-events-clause-seen : goal.returns-in_err-events-clause-seen
 returns-in_err-events-clause-seen c =
     knows_then (known_rows c.args.lines.now.items) c.loop-r.lines.items c.further_of.new.lines.items c.loop-r.invariant.seen c.further_of.ensures.seen
 
-pub returns-in_err-push-clause-seen : goal.returns-in_err-push-clause-seen
-returns-in_err-push-clause-seen c =
-    knows_then (known_rows c.args.lines.now.items) c.loop-r.lines.items c.further_of.new.lines.items c.loop-r.invariant.seen c.further_of.ensures.seen
+pub push_reserved-requires : goal.push_reserved-requires
+push_reserved-requires c =
+    let i = c.loop-r.invariant in
+    let t = c.loop-r-test.true in
+    let n = c.n-n.ensures.value in
+    let count = i.further.count in
+    let rows = length-map c.loop-r.further.items deque_items in
+    let room = i.room in
+    let own = c.loop-r.further.ok.0 in
+    omega (arith, t, n, count, rows, room, own)

@@ -1,4 +1,5 @@
-use Rattle.std.proofs.Common.{◌≡◌}
+use Rattle.std.proofs.Common.{◌≡◌, ◌≤◌, length}
+use Rattle.std.specs.Prelude.{vec_capacity}
 use Rattle.line_rings.specs.Ends.{in_ends, known_rows, StillKnow}
 use Rattle.line_posts.specs.Gathering.{rows_of, AreFurtherBelow}
 use Rattle.line_posts.proofs.further.further_of_all.Given as goal
@@ -11,4 +12,5 @@ invariant-loop-r l = record {
   seen : StillKnow (known_rows l.fn.lines.items) l.lines.items;
   posts : l.posts.items ≡ l.fn.posts.items;
   further : AreFurtherBelow l.r l.failed l.fn.catalogue.processes l.catalogue.rooms l.fn.posts.items (rows_of l.further.items);
+  room : length l.fn.catalogue.processes ≤ vec_capacity l.further;
 }

@@ -18,9 +18,10 @@ invariant_of-self-2 c =
     let p = c.get-p.ensures.value in
     let w = subst (λ (t : PostView). c.args.from < length t.opening) (sym v) c.requires.within in
     let K = map deque_items c.self.inside.kept.items in
-    let (packet, rest, row, named) = c.name_kept-name.ensures in
+    let (rest, row) = c.first_kept-first.ensures in
+    let named = c.message_name-name.ensures in
     let found = c.take_kept-packet.ensures.first in
-    let same : packet ≡ c.take_kept-packet.result = cc (row, found) in
+    let same : c.first_kept-first.result.now ≡ c.take_kept-packet.result = cc (row, found) in
     let first = ap (row_at K) (sym p) ∙ found in
     (replay_keeps _ c.args.from c.take_kept-packet.result _ _ _ _ _ h w first (cc (pushed, named, same)) (c.take_kept-packet.ensures.rows ∙ ap (without_first K) p), inc, told, heard.n_is ∙ n, heard.me_is ∙ me_is, know)
 

@@ -1,7 +1,7 @@
 use Rattle.std.proofs.Common.{◌≡◌, ◌<◌, [], ℕ}
 use Rattle.line_rings.specs.Ends.{row_at}
 use Rattle.line_posts.specs.Gathering.{rows_of, IsOnWay}
-use Rattle.line_posts.proofs.further.add_all.Given as goal
+use Rattle.line_posts.proofs.further.add_and_keep.Given as goal
 
 abbrev pub invariant-loop-r : goal.invariant-loop-r
 invariant-loop-r l = record {
