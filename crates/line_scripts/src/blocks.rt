@@ -35,19 +35,6 @@ pub(crate) struct Block {
     bytes: Vec<u8>,
 }
 
-impl Block {
-    // A block without commands.
-    fn new(alloc: Global) -> Block
-        ensures kept { result.kept.items ≡ [] }
-        ensures bytes { result.bytes.items ≡ [] }
-    {
-        Block {
-            kept: Vec::new(alloc),
-            bytes: Vec::new(alloc),
-        }
-    }
-}
-
 /// Commands that are kept as they are read.
 #[derive(Drop)]
 pub(crate) struct Blocks {
@@ -142,7 +129,10 @@ impl Blocks {
     {
         Blocks {
             full: VecDeque::new(alloc),
-            last: Block::new(alloc),
+            last: Block {
+                kept: Vec::new(alloc),
+                bytes: Vec::new(alloc),
+            },
         }
     }
 

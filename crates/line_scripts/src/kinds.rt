@@ -28,13 +28,6 @@ fn refused(fault: Fault, long: usize) -> Kept
     }
 }
 
-// A command of a process that there is not.
-fn no_process(long: usize) -> Kept
-    ensures { result ≡ Kept.Refused (code_of faults.NoSuchProcess) long }
-{
-    refused(Fault::NoSuchProcess, long)
-}
-
 // Puts the bytes that a field spells after those that a list has, and tells how many these are.
 #[inline(always)]
 #[tactic(auto, using(crate::proofs::BehindLemmas::given_behind))]
@@ -70,10 +63,10 @@ pub(crate) fn send_of(n: u32, row: &FieldRow<'_>, bytes: &mut Vec<u8>) -> Result
     let to = plain(row, 2)?;
     let long = spell_behind(bytes, row.field(3))?;
     let Ok(from) = ProcId::try_new(from, n) else {
-        return Ok(no_process(long));
+        return Ok(refused(Fault::NoSuchProcess, long));
     };
     let Ok(to) = ProcId::try_new(to, n) else {
-        return Ok(no_process(long));
+        return Ok(refused(Fault::NoSuchProcess, long));
     };
     if long > MOST_BODY {
         return Ok(refused(Fault::BodyTooLong, long));
@@ -107,10 +100,10 @@ pub(crate) fn deliver_of(
     let pick = number(row.field(3), 0, u64::MAX)?;
     let long = spell_behind(bytes, row.field(4))?;
     let Ok(from) = ProcId::try_new(from, n) else {
-        return Ok(no_process(long));
+        return Ok(refused(Fault::NoSuchProcess, long));
     };
     let Ok(to) = ProcId::try_new(to, n) else {
-        return Ok(no_process(long));
+        return Ok(refused(Fault::NoSuchProcess, long));
     };
     let delivery = delivery(alloc, from, to, pick, long)?;
     Ok(delivery)
@@ -198,7 +191,7 @@ pub(crate) fn kept_checkpoint(
             at: in_byte(at),
             long: bytes.len() - start,
         }),
-        None => Ok(no_process(bytes.len() - start)),
+        None => Ok(refused(Fault::NoSuchProcess, bytes.len() - start)),
     }
 }
 
@@ -218,7 +211,7 @@ pub(crate) fn kept_begin(n: u32, row: &FieldRow<'_>, bytes: &mut Vec<u8>) -> Res
             at: in_byte(at),
             long: bytes.len() - start,
         }),
-        None => Ok(no_process(bytes.len() - start)),
+        None => Ok(refused(Fault::NoSuchProcess, bytes.len() - start)),
     }
 }
 
@@ -238,7 +231,7 @@ pub(crate) fn kept_turn(n: u32, row: &FieldRow<'_>, bytes: &mut Vec<u8>) -> Resu
             at: in_byte(at),
             long: bytes.len() - start,
         }),
-        None => Ok(no_process(bytes.len() - start)),
+        None => Ok(refused(Fault::NoSuchProcess, bytes.len() - start)),
     }
 }
 
@@ -256,7 +249,7 @@ pub(crate) fn kept_damage(n: u32, row: &FieldRow<'_>) -> Result<Kept, ReadError>
             at: in_byte(at),
             check,
         }),
-        None => Ok(no_process(0)),
+        None => Ok(refused(Fault::NoSuchProcess, 0)),
     }
 }
 
@@ -274,7 +267,7 @@ pub(crate) fn kept_bar(n: u32, row: &FieldRow<'_>) -> Result<Kept, ReadError>
             at: in_byte(at),
             check,
         }),
-        None => Ok(no_process(0)),
+        None => Ok(refused(Fault::NoSuchProcess, 0)),
     }
 }
 
@@ -289,7 +282,7 @@ pub(crate) fn kept_recover(alloc: Global, n: u32, row: &FieldRow<'_>) -> Result<
 {
     match with_failed(alloc, n, row)? {
         Some(failed) => Ok(Kept::Recover(failed)),
-        None => Ok(no_process(0)),
+        None => Ok(refused(Fault::NoSuchProcess, 0)),
     }
 }
 
@@ -304,7 +297,7 @@ pub(crate) fn kept_bundle(alloc: Global, n: u32, row: &FieldRow<'_>) -> Result<K
 {
     match with_failed(alloc, n, row)? {
         Some(failed) => Ok(Kept::Bundle(failed)),
-        None => Ok(no_process(0)),
+        None => Ok(refused(Fault::NoSuchProcess, 0)),
     }
 }
 

@@ -1,15 +1,14 @@
 //! Scripts whose texts come in pieces of whole lines.
 
-ghost use Rattle.std.specs.Prelude.{◌≡◌, ◌+◌, ◌^◌, ◌≤◌, ◌<◌, ◌++◌, [], ℕ, List, None, Ok, Err};
-ghost use Rattle.std.specs.Prelude.{length, IfErr, IfOk, IfSome, IsTrue, OnErr, OnOk};
+ghost use Rattle.std.specs.Prelude.{◌≡◌, ◌+◌, ◌^◌, ◌≤◌, ◌<◌, ◌++◌, ℕ, List, None, Ok, Err};
+ghost use Rattle.std.specs.Prelude.{length, IfErr, IfOk, IfSome, IsTrue, OnOk};
 ghost use Rattle.line_names.specs.declared.limits.TheConstants.{MOST_PROCESSES};
 ghost use Rattle.line_fields.specs.Bytes.{is_input_text};
 ghost use Rattle.line_fields.specs.Records.{EndsLine, records_of_text};
-ghost use Rattle.line_claims.specs.Reads as reads;
 ghost use Rattle.line_claims.specs.Reads.{Yields};
 ghost use Rattle.line_scripts.specs.Pieces as spec;
 ghost use Rattle.line_scripts.specs.Reads.{IsOfScript, kept_script_view};
-ghost use Rattle.line_scripts.specs.Scripts.{commands_from, world_of};
+ghost use Rattle.line_scripts.specs.Scripts.{commands_from};
 
 use crate::blocks::{Blocks, Commands};
 use crate::commands::world_of;
@@ -19,17 +18,6 @@ use line_fields::{Fault, FieldRow, RecordReader, is_plain};
 use line_steps::Mode;
 use std::alloc::{AllocError, Global};
 use std::marker::Model;
-
-// The number of processes and how links deliver, as the first record says.
-fn world_at(row: &FieldRow<'_>) -> Result<(u32, Mode), TextError>
-    ensures exact { Yields (λ world. world) result (reads.at_record 1 (world_of row.now)) }
-    ensures within { IfOk result (λ world. (1 ≤ world.0) × (world.0 ≤ MOST_PROCESSES)) }
-{
-    match world_of(row) {
-        Ok(world) => Ok(world),
-        Err(fault) => Err(fault_at(1, fault)),
-    }
-}
 
 // Keeps the commands of the records that are left, after those that are kept. The first command of
 // a script is that of record 2.
@@ -72,9 +60,13 @@ fn begin<'a>(
     if !records.next_row(row)? {
         return Ok(());
     }
-    let first = world_at(row)?;
-    *world = Some(first);
-    keep_all(alloc, first.0, records, row, commands)
+    match world_of(row) {
+        Ok(first) => {
+            *world = Some(first);
+            keep_all(alloc, first.0, records, row, commands)
+        }
+        Err(fault) => Err(fault_at(1, fault)),
+    }
 }
 
 // Takes the records of a piece after those that were taken.
