@@ -1,6 +1,6 @@
 -- The round of colours that is open in a world, and what a turn does to it.
-use Rattle.std.proofs.Common.{◌≡◌, ◌≢◌, ℕ, ◌<◌, Bool, true, false, cond, List, [], length, map, Option, Some, None, refl, sym, ap, ◌∙◌, subst, arith, inl, inr}
-use Rattle.std.specs.Prelude.{◌==◌, ◌&&◌, ◌↔◌, IsTrue, not}
+use Rattle.std.proofs.Common.{◌≡◌, ◌≢◌, ℕ, ◌<◌, Bool, true, false, cond, List, [], ◌∷◌, length, map, Option, Some, None, refl, sym, ap, ◌∙◌, subst, arith, inl, inr}
+use Rattle.std.specs.Prelude.{◌==◌, ◌&&◌, ◌↔◌, IsTrue, if◌then◌else◌, not}
 use Rattle.std.specs.List.{range_with_len}
 use Rattle.std.proofs.lemmas.Bool.{cases_eq, eq-eqb}
 use Rattle.std.proofs.lemmas.List.{length-map}
@@ -24,7 +24,7 @@ use Rattle.line_turns.specs.Tables.{between, IsTable}
 use Rattle.line_turns.specs.Turning.{TurningView, IsLastLine, IsTurning}
 use Rattle.line_steps.specs.declared.modes.Mode.TheVariants.{Unordered}
 use Rattle.line_moves.specs.Listed.{ListedRound, channel, channel_table, is_begun, is_completed, listed_round}
-use Rattle.line_moves.specs.Openings.{opened_by, opened_turning, AreInTransit, IsOpenTurning}
+use Rattle.line_moves.specs.Openings.{OpenView, left_open, newly_closed, opened_by, opened_turning, AreInTransit, IsCountedAtRound, IsOpenTurning}
 use Rattle.line_moves.specs.Worlds.{AreRounds}
 use Rattle.line_moves.proofs.FateLemmas.{same_test}
 use Rattle.line_moves.proofs.LinkLemmas.{length-with_event}
@@ -92,6 +92,22 @@ module _ (history : List Process) (turning : TurningView) (is : IsTurning histor
               found.each p q p_in q_in apart
               ∙ sym (round_transit history at state r line within none stands.now (line_choice history turning at line within is stands others) p q p_in q_in);
         }
+
+-- what was counted for the round that was turned to is so for the round that is taken off
+pub round_counted : (after given : List Process) (new round : TurningView) (channels : Option (List (List (List MsgName)))) (table : List (List (List MsgName))) → after ≡ given → new ≡ round → channels ≡ Some table
+    → IsCountedAtRound after new.number channels → IsCountedAtRound given round.number (Some table)
+round_counted after given new round channels table now same is counted =
+    subst (λ (h : List Process). IsCountedAtRound h round.number (Some table)) now
+    (subst (λ (t : TurningView). IsCountedAtRound after t.number (Some table)) same
+    (subst (λ (o : Option (List (List (List MsgName)))). IsCountedAtRound after new.number o) is counted))
+
+-- a round of colours that is completed is listed, and open no more
+pub closed_round : (history : List Process) (turning : TurningView) → is_completed_unordered history turning.number ≡ true
+    → (newly_closed Unordered history (Some (opened_by turning)) ≡ listed_round Unordered history turning.number ∷ []) × (left_open Unordered history (Some (opened_by turning)) ≡ None)
+closed_round history turning completed = (
+  ap (λ b. if b then listed_round Unordered history turning.number ∷ [] else []) completed,
+  ap (λ (b : Bool). let left : Option OpenView = if b then None else Some (opened_by turning) in left) completed,
+)
 
 -- what is in transit at a line, as it is counted
 pub channels_found : (history : List Process) (line : List Choice) → AreInTransit history line (channels_at history line)

@@ -1,5 +1,4 @@
-//! The round that is open, and what closes it: of markers (Chandy and Lamport, ACM TOCS 3(1), 1985)
-//! or of colours (Lai and Yang, Information Processing Letters 25(3), 1987).
+//! The round of markers that is open, and what closes it (Chandy and Lamport, ACM TOCS 3(1), 1985).
 ghost use Rattle.std.specs.Prelude.{◌≡◌, ◌≢◌, ◌<◌, ◌≤◌, ◌+◌, ◌++◌, ℕ, List, length, true, false};
 ghost use Rattle.std.specs.Prelude.{IfOk, OnOk, OnErr, Some, None, MatchOption};
 ghost use Rattle.line_tape.specs.declared.events.Event.TheVariants.{Recv as RecvEvent};
@@ -7,13 +6,10 @@ ghost use Rattle.line_tape.specs.declared.events.Event.TheVariants.{Check as Che
 ghost use Rattle.line_tape.specs.declared.events.Event.TheVariants.{Mark as MarkEvent};
 ghost use Rattle.line_tape.specs.History.{tape_at, with_event};
 ghost use Rattle.line_tape.specs.Rounds.{has_check_of, is_completed_fifo};
-ghost use Rattle.line_turns.specs.Turning.{IsTurning};
-ghost use Rattle.line_steps.specs.declared.modes.Mode.TheVariants.{Fifo, Unordered};
+ghost use Rattle.line_steps.specs.declared.modes.Mode.TheVariants.{Fifo};
 ghost use Rattle.line_moves.specs.Listed.{listed_round};
 ghost use Rattle.line_moves.specs.Openings.{left_open, marker_at, newly_closed, open_number};
-ghost use Rattle.line_moves.specs.Openings.{opened_by, opened_turning, AreMarkers};
-ghost use Rattle.line_moves.specs.Openings.{IsCountedAtRound};
-ghost use Rattle.line_moves.specs.Openings.{IsFresh, IsOnlyOpen, IsRecording, OpenView};
+ghost use Rattle.line_moves.specs.Openings.{AreMarkers, IsFresh, IsOnlyOpen, IsRecording, OpenView};
 ghost use Rattle.line_moves.specs.Fates.{is_forced};
 
 use crate::listings::Listing;
@@ -21,7 +17,7 @@ use crate::recorders::Recorder;
 use crate::rounds::Round;
 use line_names::{MOST_PROCESSES, MsgName, ProcId};
 use line_tape::{History, LAST_ROUND};
-use line_turns::{SharedChannels, Turning};
+use line_turns::Turning;
 use std::alloc::{AllocError, Global};
 use std::marker::Model;
 
@@ -325,32 +321,5 @@ fn list_round(
     match running.take() {
         Some(round) => rounds.push(round.completed(alloc, history)),
         None => unreachable!(),
-    }
-}
-
-/// Lists the round of colours if what is in transit at its checks is given, which is so exactly
-/// where it is completed. Else it gives the round back.
-pub(crate) fn still_turning(
-    alloc: Global,
-    turning: Turning,
-    channels: Option<SharedChannels>,
-    history: &History,
-    rounds: &mut Listing,
-) -> Option<Turning>
-    requires turning { IsTurning history.now.processes turning }
-    requires channels { IsCountedAtRound history.now.processes turning.number channels }
-    requires room { 0 < rounds.old.room }
-    ensures listed { rounds.new.items
-        ≡ rounds.old.items
-        ++ newly_closed Unordered history.now.processes (Some (opened_by turning)) }
-    ensures left { opened_turning result
-        ≡ left_open Unordered history.now.processes (Some (opened_by turning)) }
-{
-    match channels {
-        Some(channels) => {
-            rounds.push(Round::of_turning(alloc, turning, channels, history));
-            None
-        }
-        None => Some(turning),
     }
 }

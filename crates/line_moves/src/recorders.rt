@@ -26,22 +26,7 @@ impl Model for Noted {
     ghost view = { λ n. n.names.items };
 }
 
-/// Has there be a list for a process.
-fn make_list(alloc: Global, noted: &mut Vec<Noted>, from: ProcId) -> Result<(), AllocError>
-    ensures same { (q : ℕ)
-        → slice_index_or noted.new.items q [] ≡ slice_index_or noted.old.items q [] }
-    ensures few { (n : ℕ) → from < n → length noted.old.items ≤ n → length noted.new.items ≤ n }
-    ensures ok { OnOk result (from < length noted.new.items) }
-{
-    for _q in noted.len()..from.get() as usize + 1 {
-        noted.push(Noted {
-            names: Vec::new(alloc),
-        })?;
-    }
-    Ok(())
-}
-
-/// Adds a message to those of its sender.
+/// Adds a message to those of its sender, in a list that is made if there is none.
 fn put(alloc: Global, noted: &mut Vec<Noted>, message: MsgName) -> Result<(), AllocError>
     ensures here { OnOk result
         (slice_index_or noted.new.items message.from []
@@ -54,7 +39,11 @@ fn put(alloc: Global, noted: &mut Vec<Noted>, message: MsgName) -> Result<(), Al
         (slice_index_or noted.new.items message.from []
         ≡ slice_index_or noted.old.items message.from []) }
 {
-    make_list(alloc, noted, message.from)?;
+    for _q in noted.len()..message.from.get() as usize + 1 {
+        noted.push(Noted {
+            names: Vec::new(alloc),
+        })?;
+    }
     let own = &mut noted[message.from.get() as usize];
     own.names.push(message)?;
     Ok(())

@@ -1,7 +1,7 @@
 //! What the steps of a round do to the tapes, the links, the colours and the rounds.
 //!
 //! All room is made first: if memory runs out, the tapes and the marks are as they were.
-ghost use Rattle.std.specs.Prelude.{◌≡◌, ◌≢◌, ◌<◌, ◌≤◌, ◌+◌, ℕ, ◌∷◌, [], length, true, false};
+ghost use Rattle.std.specs.Prelude.{◌≡◌, ◌≢◌, ◌<◌, ◌≤◌, ◌+◌, ℕ, ◌∷◌, [], length, false};
 ghost use Rattle.std.specs.Prelude.{slice_get, All, IfOk, OnOk, OnErr, Option, Some, None};
 ghost use Rattle.line_tape.specs.declared.events.Event.TheVariants.{Check as CheckEvent};
 ghost use Rattle.line_tape.specs.declared.events.Event.TheVariants.{Mark as MarkEvent};
@@ -26,7 +26,7 @@ use crate::counts::count_channels;
 use crate::links::Links;
 use crate::listings::Listing;
 use crate::moves::add_event;
-use crate::openings::{OpenRound, hear, still_turning};
+use crate::openings::{OpenRound, hear};
 use crate::rounds::Round;
 use line_catalogue::Catalogue;
 use line_names::ProcId;
@@ -118,39 +118,6 @@ fn force_round(
     Ok(())
 }
 
-/// The marker of a round has come to a process that has its check of it. The mark goes on its tape,
-/// and the marker off its link.
-fn hear_round(
-    catalogue: &mut Catalogue,
-    links: &mut Links,
-    running: &mut Option<OpenRound>,
-    from: ProcId,
-    to: ProcId,
-    round: u32,
-) -> Result<(), AllocError>
-    requires from { from < length catalogue.old.processes }
-    requires to { to < length catalogue.old.processes }
-    requires other { from ≢ to }
-    requires few { length (tape_at catalogue.old.processes to) < MOST_EVENTS }
-    requires begun { has_check_of round (tape_at catalogue.old.processes to) ≡ true }
-    requires marker { slice_get (between links.old from to) 0 ≡ Some (Marker round) }
-    requires world { IsWorld Fifo catalogue.old.processes links.old }
-    requires opening { IsOnlyOpen Fifo catalogue.old.processes running.old }
-    ensures taken { OnOk result
-        (catalogue.new.processes ≡ with_event catalogue.old.processes to (MarkEvent from round)) }
-    ensures world { IsWorld Fifo catalogue.new.processes links.new }
-    ensures opening { IsOnlyOpen Fifo catalogue.new.processes running.new }
-    ensures number { open_number running.new ≡ open_number running.old }
-    ensures err { OnErr result (catalogue.new.processes ≡ catalogue.old.processes) }
-    ensures marks { catalogue.new.marks ≡ catalogue.old.marks }
-{
-    catalogue.reserve(to, 1)?;
-    hear(running, catalogue.history(), from, to, round);
-    links.drop_first(from, to);
-    catalogue.append_mark(to, from, round);
-    Ok(())
-}
-
 /// Takes the marker that is first on a link. If the process has no check of its round yet, it takes
 /// that first: `forced` is what `is_forced` says.
 ///
@@ -189,13 +156,16 @@ pub fn take_marker(
     ensures marks { catalogue.new.marks ≡ catalogue.old.marks }
 {
     if forced {
-        match running {
+        return match running {
             Some(kept) => force_round(alloc, catalogue, links, kept, from, to, state),
             None => unreachable!(),
-        }
-    } else {
-        hear_round(catalogue, links, running, from, to, round)
+        };
     }
+    catalogue.reserve(to, 1)?;
+    hear(running, catalogue.history(), from, to, round);
+    links.drop_first(from, to);
+    catalogue.append_mark(to, from, round);
+    Ok(())
 }
 
 /// A process takes its check of the open round of colours, and has its new colour. The index of the
@@ -301,8 +271,10 @@ pub fn turn_round(
         },
         None => unreachable!(),
     };
-    if let Some(round) = turning.take() {
-        *turning = still_turning(alloc, round, channels, catalogue.history(), rounds);
+    if let Some(channels) = channels {
+        if let Some(round) = turning.take() {
+            rounds.push(Round::of_turning(alloc, round, channels, catalogue.history()));
+        }
     }
     Ok(check)
 }

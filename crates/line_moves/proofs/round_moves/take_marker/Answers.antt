@@ -1,17 +1,20 @@
 -- Only the marker of the round that is open has a process take its check.
-use Rattle.std.proofs.Common.{◌≡◌, ℕ, true, List, [], ◌∷◌, Some, None, ap, ◌∙◌, subst, sym}
+use Rattle.std.proofs.Common.{◌≡◌, ℕ, true, List, [], ◌∷◌, Some, None, length, rules, ap, ◌∙◌, subst, sym, arith}
 use Rattle.std.proofs.lemmas.Result.{on_ok_weaker}
 use Rattle.line_tape.specs.declared.events.Event.TheVariants.{Check, Mark}
+use Rattle.line_tape.specs.declared.items.Item.{Item}
 use Rattle.line_tape.specs.declared.items.Item.TheVariants.{Marker}
-use Rattle.line_tape.specs.History.{Process, tape_at}
+use Rattle.line_tape.specs.History.{Process, tape_at, with_event}
 use Rattle.line_tape.specs.Rounds.{has_check_of}
 use Rattle.line_steps.specs.declared.modes.Mode.TheVariants.{Fifo}
 use Rattle.line_moves.specs.Fates.{is_forced, marker_events}
 use Rattle.line_moves.specs.Moves.{with_events}
 use Rattle.line_moves.specs.Openings.{OpenView, IsOnlyOpen, IsRecording, IsRunning}
+use Rattle.line_moves.specs.Worlds.{IsWorld}
+use Rattle.line_moves.proofs.AgreeLemmas.{AgreesNext-mark}
 use Rattle.line_moves.proofs.OpenFacts.{either_way}
 use Rattle.line_moves.proofs.OpeningLemmas.{forced_none, forced_number, forced_open, IsRunning-forced, IsRunning-renewed}
-use Rattle.line_moves.proofs.WorldLemmas.{marker_sent}
+use Rattle.line_moves.proofs.WorldLemmas.{marker_sent, IsWorld-mark}
 use Rattle.line_moves.proofs.round_moves.take_marker.Goals as goal
 
 pub force_round-requires-clause-first : goal.force_round-requires-clause-first
@@ -38,8 +41,8 @@ unreachable-requires c =
     let sent = marker_sent history c.args.links.now c.requires.world c.args.from c.args.to c.args.round c.requires.from c.requires.to c.requires.other c.requires.marker in
     forced_open history c.args.from c.args.to c.args.round opening sent none c.requires.to
 
-pub returns-in-Some-clause-taken : goal.returns-in-Some-clause-taken
-returns-in-Some-clause-taken c =
+pub returns-then-forced-clause-taken : goal.returns-then-forced-clause-taken
+returns-then-forced-clause-taken c =
     let history : List Process = c.args.catalogue.now.processes in
     let forced : is_forced history c.args.to c.args.round ≡ true = sym c.requires.forced ∙ c.if-forced.true in
     let none = forced_none history c.args.to c.args.round forced in
@@ -50,8 +53,8 @@ returns-in-Some-clause-taken c =
     ∙ ap (λ (v : ℕ). with_events history c.args.to (Check c.args.state.now (Some v) ∷ Mark c.args.from v ∷ [])) number
     ∙ ap (λ b. with_events history c.args.to (marker_events b c.args.from c.args.state.now c.args.round)) (sym forced)) c.force_round.ensures.taken
 
-pub returns-in-Some-clause-opening : goal.returns-in-Some-clause-opening
-returns-in-Some-clause-opening c =
+pub returns-then-forced-clause-opening : goal.returns-then-forced-clause-opening
+returns-then-forced-clause-opening c =
     let history : List Process = c.args.catalogue.now.processes in
     let kept : OpenView = c.in-Some.kept in
     let new : OpenView = c.force_round.new.running in
@@ -64,3 +67,16 @@ returns-in-Some-clause-opening c =
     (λ same. subst (λ (h : List Process). IsRunning Fifo h new) (sym same)
     (IsRunning-renewed Fifo history kept new c.force_round.ensures.number opening (subst (λ (h : List Process). IsRecording h new) same c.force_round.ensures.recording)))
     c.force_round.ensures.taken c.force_round.ensures.err
+
+pub append_mark-requires-clause-agrees : goal.append_mark-requires-clause-agrees
+append_mark-requires-clause-agrees c =
+    AgreesNext-mark c.reserve.new.self.processes c.history.ensures.agrees c.args.to (omega (arith, c.requires.to, ap (λ (h : List Process). length h) c.in_ok-reserve.ensures.processes)) c.args.from c.args.round
+
+pub returns-clause-world : goal.returns-clause-world
+returns-clause-world c =
+    let history : List Process = c.args.catalogue.now.processes in
+    let begun : has_check_of c.args.round (tape_at history c.args.to) ≡ true = search rules in
+    let after = c.append_mark.ensures.processes ∙ ap (λ (h : List Process). with_event h c.args.to (Mark c.args.from c.args.round)) c.in_ok-reserve.ensures.processes in
+    subst (λ (h : List Process). IsWorld Fifo h c.drop_first.new.self) (sym after)
+    (subst (λ (q : List (List (List Item))). IsWorld Fifo (with_event history c.args.to (Mark c.args.from c.args.round)) q) (sym c.drop_first.ensures)
+    (IsWorld-mark history c.args.links.now c.requires.world c.args.from c.args.to c.args.round c.requires.from c.requires.to c.requires.other c.requires.marker begun))

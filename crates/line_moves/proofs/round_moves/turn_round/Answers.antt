@@ -1,12 +1,12 @@
 -- The round that is kept as open is the one that is turned to.
-use Rattle.std.proofs.Common.{◌≡◌, ◌++◌, ℕ, List, Some, sym, ap, ◌∙◌, subst, arith}
+use Rattle.std.proofs.Common.{◌≡◌, ◌++◌, ◌∷◌, [], ℕ, List, sym, ap, ◌∙◌, subst, arith}
 use Rattle.line_tape.specs.History.{Process, tape_at}
 use Rattle.line_tape.specs.Rounds.{has_check_of}
-use Rattle.line_turns.specs.Turning.{TurningView}
+use Rattle.line_turns.specs.Turning.{TurningView, IsTurning}
 use Rattle.line_steps.specs.declared.modes.Mode.TheVariants.{Unordered}
-use Rattle.line_moves.specs.Listed.{ListedRound}
-use Rattle.line_moves.specs.Openings.{left_open, newly_closed, opened_by, IsCountedAtRound}
-use Rattle.line_moves.proofs.TurnFacts.{open_round, same_round}
+use Rattle.line_moves.specs.Listed.{ListedRound, listed_round}
+use Rattle.line_moves.specs.Openings.{opened_turning, IsCountedAtRound}
+use Rattle.line_moves.proofs.TurnFacts.{closed_round, open_round, round_counted, same_round}
 use Rattle.line_moves.proofs.round_moves.turn_round.Goals as goal
 
 pub take_turn-requires-clause-first : goal.take_turn-requires-clause-first
@@ -23,27 +23,39 @@ take_turn-requires-clause-greater c =
 pub take_turn-requires-clause-turning : goal.take_turn-requires-clause-turning
 take_turn-requires-clause-turning c = (open_round c.args.catalogue.now.processes c.args._round c.args.turning.now c.in-Some.round c.in-Some.is c.requires.kept).1
 
-pub still_turning-requires-clause-channels : goal.still_turning-requires-clause-channels
-still_turning-requires-clause-channels c =
-    let new : TurningView = c.take_turn.new.turning in
-    let same : new ≡ c.in-Some-take.round = same_round c.take.result new c.in-Some-take.round c.take.ensures.value c.in-Some-take.is in
-    subst (λ (h : List Process). IsCountedAtRound h c.in-Some-take.round.number c.in_ok-check-in-Some.channels) (sym c.history.ensures.processes)
-    (subst (λ (t : TurningView). IsCountedAtRound c.take_turn.new.catalogue.processes t.number c.in_ok-check-in-Some.channels) same c.in_ok-check-in-Some.ensures.channels)
+pub of_turning-requires-clause-turning : goal.of_turning-requires-clause-turning
+of_turning-requires-clause-turning c =
+    let same = same_round c.take.result c.take_turn.new.turning c.in-Some-take.round c.take.ensures.value c.in-Some-take.is in
+    subst (λ (h : List Process). IsTurning h c.in-Some-take.round) (sym c.history.ensures.processes)
+    (subst (λ (t : TurningView). IsTurning c.take_turn.new.catalogue.processes t) same c.in_ok-check-in-Some.ensures.turning)
+
+pub of_turning-requires-clause-completed : goal.of_turning-requires-clause-completed
+of_turning-requires-clause-completed c =
+    (round_counted c.take_turn.new.catalogue.processes c.history.result.now.processes c.take_turn.new.turning c.in-Some-take.round c.in_ok-check-in-Some.channels c.in-Some-channels.channels (sym c.history.ensures.processes)
+    (same_round c.take.result c.take_turn.new.turning c.in-Some-take.round c.take.ensures.value c.in-Some-take.is) c.in-Some-channels.is c.in_ok-check-in-Some.ensures.channels).0
+
+pub of_turning-requires-clause-channels : goal.of_turning-requires-clause-channels
+of_turning-requires-clause-channels c =
+    (round_counted c.take_turn.new.catalogue.processes c.history.result.now.processes c.take_turn.new.turning c.in-Some-take.round c.in_ok-check-in-Some.channels c.in-Some-channels.channels (sym c.history.ensures.processes)
+    (same_round c.take.result c.take_turn.new.turning c.in-Some-take.round c.take.ensures.value c.in-Some-take.is) c.in-Some-channels.is c.in_ok-check-in-Some.ensures.channels).1
 
 pub returns-in-Some-take-clause-settled : goal.returns-in-Some-take-clause-settled
 returns-in-Some-take-clause-settled c =
     let new : TurningView = c.take_turn.new.turning in
     let same : c.in-Some-take.round ≡ new = sym (same_round c.take.result new c.in-Some-take.round c.take.ensures.value c.in-Some-take.is) in
+    let before : List ListedRound = c.args.rounds.now.items in
     let after : List Process = c.take_turn.new.catalogue.processes in
+    let counted = subst (IsCountedAtRound after new.number) c.in-Some-channels.is c.in_ok-check-in-Some.ensures.channels in
+    let closed = closed_round after new counted.0 in
     record {
       round = new;
       number_is = c.in_ok-check-in-Some.ensures.number ∙ (open_round c.args.catalogue.now.processes c.args._round c.args.turning.now c.in-Some.round c.in-Some.is c.requires.kept).0;
       follows = c.in_ok-check-in-Some.ensures.turning;
-      listed = c.still_turning.ensures.listed
-          ∙ ap (λ (ls : List ListedRound). ls ++ newly_closed Unordered c.history.result.now.processes (Some (opened_by c.in-Some-take.round))) c.reserve.ensures.items
-          ∙ ap (λ (h : List Process). c.args.rounds.now.items ++ newly_closed Unordered h (Some (opened_by c.in-Some-take.round))) c.history.ensures.processes
-          ∙ ap (λ (t : TurningView). c.args.rounds.now.items ++ newly_closed Unordered after (Some (opened_by t))) same;
-      left = c.still_turning.ensures.left
-          ∙ ap (λ (h : List Process). left_open Unordered h (Some (opened_by c.in-Some-take.round))) c.history.ensures.processes
-          ∙ ap (λ (t : TurningView). left_open Unordered after (Some (opened_by t))) same;
+      listed = c.push.ensures
+          ∙ ap (λ (ls : List ListedRound). ls ++ c.of_turning.result ∷ []) c.reserve.ensures.items
+          ∙ ap (λ (l : ListedRound). before ++ l ∷ []) (c.of_turning.ensures
+          ∙ ap (λ (h : List Process). listed_round Unordered h c.in-Some-take.round.number) c.history.ensures.processes
+          ∙ ap (λ (t : TurningView). listed_round Unordered after t.number) same)
+          ∙ ap (λ (ls : List ListedRound). before ++ ls) (sym closed.0);
+      left = ap opened_turning c.take.ensures.after ∙ sym closed.1;
     }
