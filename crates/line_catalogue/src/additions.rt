@@ -39,45 +39,6 @@ fn agrees_next(history: &History, p: ProcId, event: &Event) -> bool
     }
 }
 
-/// Whether the event may be added to the tape of a process of an agreeing history; it asks in the
-/// order of the refusals.
-pub fn test_event(history: &History, p: ProcId, event: &Event) -> Result<(), AddError>
-    requires { Agrees history.now.processes }
-    ensures process { IsErrOf result AddError.NoSuchProcess
-        ↔ ((length history.now.processes ≤ p)
-        ⊎ (NamesBelow (length history.now.processes) event.now → ⊥)) }
-    ensures long { IsErrOf result AddError.StateTooLong
-        ↔ ((p < length history.now.processes) × NamesBelow (length history.now.processes) event.now
-        × HasLongState event.now) }
-    ensures full { IsErrOf result AddError.TapeFull
-        ↔ ((p < length history.now.processes) × NamesBelow (length history.now.processes) event.now
-        × (HasLongState event.now → ⊥) × (length (tape_at history.now.processes p) ≡ MOST_EVENTS)) }
-    ensures names { IsErrOf result AddError.NamesDisagree
-        ↔ ((p < length history.now.processes) × NamesBelow (length history.now.processes) event.now
-        × (HasLongState event.now → ⊥) × (length (tape_at history.now.processes p) ≢ MOST_EVENTS)
-        × (AgreesNext history.now.processes p event.now → ⊥)) }
-    ensures memory { IsErrOf result AddError.OutOfMemory → ⊥ }
-    ensures ok { OnOk result
-        ((p < length history.now.processes) × NamesBelow (length history.now.processes) event.now
-        × (HasLongState event.now → ⊥) × (length (tape_at history.now.processes p) ≢ MOST_EVENTS)
-        × AgreesNext history.now.processes p event.now) }
-{
-    let n = history.n();
-    if p.get() >= n || !event.names_below(n) {
-        return Err(AddError::NoSuchProcess);
-    }
-    if has_long_state(event) {
-        return Err(AddError::StateTooLong);
-    }
-    if history.tape(p).len() as usize >= MOST_EVENTS {
-        return Err(AddError::TapeFull);
-    }
-    if !agrees_next(history, p, event) {
-        return Err(AddError::NamesDisagree);
-    }
-    Ok(())
-}
-
 impl Catalogue {
     /// Whether `add` takes an event at the end of the tape of a process, where there is memory for
     /// it: then, with room for it, `append` does. It costs the same however much was added before.
@@ -104,6 +65,20 @@ impl Catalogue {
             × (AgreesNext self.now.processes p event.now → ⊥)) }
         ensures never { result ≢ Err AddError.OutOfMemory }
     {
-        test_event(self.history(), p, event)
+        let history = self.history();
+        let n = history.n();
+        if p.get() >= n || !event.names_below(n) {
+            return Err(AddError::NoSuchProcess);
+        }
+        if has_long_state(event) {
+            return Err(AddError::StateTooLong);
+        }
+        if history.tape(p).len() as usize >= MOST_EVENTS {
+            return Err(AddError::TapeFull);
+        }
+        if !agrees_next(history, p, event) {
+            return Err(AddError::NamesDisagree);
+        }
+        Ok(())
     }
 }

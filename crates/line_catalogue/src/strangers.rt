@@ -32,19 +32,6 @@ fn has_heard(catalogue: &Catalogue, line: &Line, q: ProcId) -> bool
     false
 }
 
-/// The set, and the process, if it has received no such message.
-fn with_stranger(catalogue: &Catalogue, line: &Line, set: ProcSet, q: ProcId) -> ProcSet
-    requires line { IsLine catalogue.now.processes line.now }
-    requires process { q < length catalogue.now.processes }
-    ensures { AreStrangers catalogue.now.processes line.now set
-        → AreStrangers catalogue.now.processes line.now result }
-{
-    if has_heard(catalogue, line, q) {
-        return set;
-    }
-    set.with(q)
-}
-
 /// The processes that have received, at any time, no message of a process that sent one before the
 /// line.
 pub fn find_strangers(catalogue: &Catalogue, line: &Line) -> ProcSet
@@ -55,7 +42,9 @@ pub fn find_strangers(catalogue: &Catalogue, line: &Line) -> ProcSet
     let mut set = ProcSet::empty();
     for r in 0..n {
         let q = ProcId::try_new(r, n).unwrap();
-        set = with_stranger(catalogue, line, set, q);
+        if !has_heard(catalogue, line, q) {
+            set = set.with(q);
+        }
     }
     set
 }

@@ -78,18 +78,6 @@ fn rows_of_tape(alloc: Global, n: u32, tape: &Tape) -> Result<ProcessRows, Alloc
     Ok(process)
 }
 
-/// Notes that a check is damaged, where it has a mark.
-fn note_damage(process: &mut ProcessRows, marks: &Marks, p: ProcId, check: u32)
-    requires { check < length process.old.rows }
-    ensures rows { process.new.rows ≡ (if is_damaged marks.now p check
-        then with_damage process.old.rows check else process.old.rows) }
-    ensures present { process.new.present ≡ process.old.present }
-{
-    if marks.has(p, check) {
-        process.damage(check);
-    }
-}
-
 /// The rows of the tape of a process with its marks, and its vector. It asks once for a mark of
 /// each check.
 fn rows_of(
@@ -108,7 +96,9 @@ fn rows_of(
 {
     let mut process = rows_of_tape(alloc, n, tape)?;
     for check in 0..tape.checks() + 1 {
-        note_damage(&mut process, marks, p, check);
+        if marks.has(p, check) {
+            process.damage(check);
+        }
     }
     Ok(process)
 }

@@ -20,4 +20,3 @@ pub mod SeatLemmas
 pub mod NotedLemmas
 pub mod FirstLemmas
 pub mod MarkedLemmas
-pub mod BarLemmas

@@ -25,10 +25,7 @@ impl Bars {
     pub fn new(alloc: Global, n: u32) -> Result<Bars, AllocError>
         ensures { IfOk result (λ bars. bars ≡ replicate n None) }
     {
-        let mut checks = Vec::with_capacity(alloc, n as usize)?;
-        for _p in 0..n {
-            checks.push(None)?;
-        }
+        let checks = vec![in alloc; None; n as usize]?;
         Ok(Bars { checks })
     }
 
@@ -54,19 +51,14 @@ impl Bars {
     pub fn clear(&mut self)
         ensures { self.new ≡ replicate (length self.old) None }
     {
-        for p in 0..self.checks.len() {
-            self.checks[p] = None;
-        }
+        self.checks.fill(None);
     }
 
     /// The same bars in memory of their own.
     pub fn copy(&self, alloc: Global) -> Result<Bars, AllocError>
         ensures { IfOk result (λ bars. bars ≡ self.now) }
     {
-        let mut checks = Vec::with_capacity(alloc, self.checks.len())?;
-        for bar in &self.checks {
-            checks.push(*bar)?;
-        }
+        let checks = Vec::from_slice(alloc, self.checks.as_slice())?;
         Ok(Bars { checks })
     }
 }

@@ -39,11 +39,7 @@ impl Model for Turning {
 fn no_checks(alloc: Global, n: u32) -> Result<Vec<u32>, AllocError>
     ensures { IfOk result (λ checks. checks.items ≡ replicate n 0) }
 {
-    let mut checks = Vec::with_capacity(alloc, n as usize)?;
-    for _q in 0..n {
-        checks.push(0)?;
-    }
-    Ok(checks)
+    vec![in alloc; 0; n as usize]
 }
 
 impl Turning {

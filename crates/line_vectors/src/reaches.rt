@@ -51,10 +51,7 @@ impl Reach {
         requires { n ≤ MOST_PROCESSES }
         ensures { IfOk result (λ reach. reach ≡ replicate n 0) }
     {
-        let mut lanes = Vec::with_capacity(alloc, n as usize)?;
-        for _p in 0..n {
-            lanes.push(0)?;
-        }
+        let lanes = vec![in alloc; 0; n as usize]?;
         Ok(Reach { lanes })
     }
 

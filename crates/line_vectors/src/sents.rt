@@ -28,10 +28,7 @@ impl Sent {
         requires { n ≤ MOST_PROCESSES }
         ensures { IfOk result (λ sent. sent ≡ replicate n 0) }
     {
-        let mut counts = Vec::with_capacity(alloc, n as usize)?;
-        for _p in 0..n {
-            counts.push(0)?;
-        }
+        let counts = vec![in alloc; 0; n as usize]?;
         Ok(Sent { counts })
     }
 

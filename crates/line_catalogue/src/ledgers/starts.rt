@@ -23,9 +23,7 @@ pub fn clear_starts(starts: &mut Vec<u32>)
     ensures count { length starts.new.items ≡ length starts.old.items }
     ensures starts { (p : ℕ) → start_at starts.new.items p ≡ 0 }
 {
-    for p in 0..starts.len() {
-        starts[p] = 0;
-    }
+    starts.fill(0);
 }
 
 /// Has each start be the number of sends before the process's choice of the line.

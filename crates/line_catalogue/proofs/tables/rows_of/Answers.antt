@@ -1,10 +1,9 @@
 -- One check more is told of, up to all of them.
-use Rattle.std.proofs.Common.{◌+◌, ◌≤◌, ◌<◌, ℕ, List, sym, ◌∙◌, subst, arith}
+use Rattle.std.proofs.Common.{◌<◌, List, arith}
 use Rattle.line_tape.specs.declared.events.Event.{Event}
 use Rattle.line_tape.specs.Event.{checks}
 use Rattle.line_tape.specs.Views.{damaged_at}
-use Rattle.line_catalogue.specs.declared.kept_rows.Row.{Row}
-use Rattle.line_catalogue.proofs.DamageLemmas.{AreTold, AreTold-none, AreTold-more, AreTold-all}
+use Rattle.line_catalogue.proofs.DamageLemmas.{AreTold-none, AreTold-all}
 use Rattle.line_catalogue.proofs.tables.rows_of.Goals as goal
 
 pub loop-check-init : goal.loop-check-init
@@ -13,21 +12,6 @@ loop-check-init c = record {
       c.in_ok-process.process.rows c.in_ok-process.ensures.rows;
   present = c.in_ok-process.ensures.present;
 }
-
-pub loop-check-preserved : goal.loop-check-preserved
-loop-check-preserved c =
-    let n : ℕ = c.args.n in
-    let tape : List Event = c.args.tape.now.events in
-    let damaged : List ℕ = damaged_at c.args.marks.now c.args.p in
-    let check : ℕ = c.loop-check.check in
-    let rows : List Row = c.loop-check.process.rows in
-    let within : check ≤ checks tape =
-    omega (arith, c.loop-check-test.true, c.checks-check-end.ensures.value) in
-    record {
-      rows = subst (AreTold n tape damaged (check + 1)) (sym c.note_damage.ensures.rows)
-          (AreTold-more n tape damaged check rows within c.loop-check.invariant.rows);
-      present = c.note_damage.ensures.present ∙ c.loop-check.invariant.present;
-    }
 
 pub returns : goal.returns
 returns c =
