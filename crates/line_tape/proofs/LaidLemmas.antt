@@ -1,6 +1,7 @@
 -- What is kept of events, as they come and go.
-use Rattle.std.proofs.Common.{◌≡◌, ℕ, suc, true, false, cond, ◌+◌, ◌*◌, ◌≤◌, List, [], ◌∷◌, ◌++◌, length, take, drop, map, Option, Some, None, refl, sym, ap, ◌∙◌, subst, arith}
+use Rattle.std.proofs.Common.{◌≡◌, ℕ, suc, true, false, cond, ◌+◌, ◌*◌, ◌≤◌, List, [], ◌∷◌, ◌++◌, length, take, drop, map, Option, Some, None, is_some, refl, sym, ap, ◌∙◌, subst, arith}
 use Rattle.std.specs.List.{All, filter_map}
+use Rattle.std.specs.Prelude.{unwrap_or}
 use Rattle.std.proofs.lemmas.List.{append-nil, drop-append-le, drop-map, drop_at, get_or_append_left, get_or_push, length-append, length-drop, length-take-le, length_push, map-append, take-append-drop, take-append-le, take-map, take_all}
 use Rattle.std.proofs.lemmas.List.Elements.{All-nil, All-cons, All-head, All-tail}
 use Rattle.line_names.specs.declared.limits.TheConstants.{MOST_BODY}
@@ -10,7 +11,7 @@ use Rattle.line_tape.specs.declared.events.Event.TheVariants.{Send, Recv, Check,
 use Rattle.line_tape.specs.declared.logs.KeptEvent.{KeptEvent}
 use Rattle.line_tape.specs.declared.logs.KeptEvent.TheVariants.{Send as KeptSend, Recv as KeptRecv, Check as KeptCheck, LargeCheck as KeptLargeCheck, Mark as KeptMark}
 use Rattle.line_tape.specs.Kept.{IsSettled}
-use Rattle.line_tape.specs.Laid.{IsKeptWithin, IsLaid, event_from_kept, first_byte, first_state, kept_check, restarted_kept}
+use Rattle.line_tape.specs.Laid.{IsKeptWithin, IsLaid, event_from_kept, first_byte, first_state, restarted_kept}
 use Rattle.line_tape.specs.Restart.{restarted_event}
 
 -- how far events reach
@@ -243,7 +244,7 @@ module _ (events : List KeptEvent) (bodies : List ℕ) (states : List (List ℕ)
   send-added to inc body short =
       bytes-added (KeptSend to (length bodies) inc (length body)) body (Send to inc body) (refl, short, (sym (length-append bodies body), refl)) (ap (Send to inc) (bytes-next bodies body))
 
-  pub check-added : (state : List ℕ) (round : Option ℕ) → length state ≤ MOST_BODY → IsLog (events ++ kept_check (length bodies) (length state) round ∷ []) (bodies ++ state) states (told ++ Check state round ∷ [])
+  pub check-added : (state : List ℕ) (round : Option ℕ) → length state ≤ MOST_BODY → IsLog (events ++ KeptCheck (length bodies) (unwrap_or round 0) (length state) (is_some round) ∷ []) (bodies ++ state) states (told ++ Check state round ∷ [])
   check-added state (Some round) small =
       bytes-added (KeptCheck (length bodies) round (length state) true) state (Check state (Some round)) (refl, small, (sym (length-append bodies state), refl)) (ap (λ (bytes : List ℕ). Check bytes (Some round)) (bytes-next bodies state))
   check-added state None small =

@@ -1,7 +1,7 @@
 -- How a tape keeps its events: each in a few bytes, and beside them the bytes of bodies and of
 -- small states, and the large states.
 use Rattle.std.specs.Prelude.{◌≡◌, ◌<◌, ◌≤◌, ◌+◌, ℕ, suc, List, [], ◌∷◌, Option, Some, None, drop}
-use Rattle.std.specs.Prelude.{length, slice_index_or, take, true, false, if◌then◌else◌}
+use Rattle.std.specs.Prelude.{length, slice_index_or, take, false, if◌then◌else◌}
 use Rattle.line_names.specs.declared.limits.TheConstants.{MOST_BODY}
 use Rattle.line_tape.specs.declared.events.Event.{Event}
 use Rattle.line_tape.specs.declared.events.Event.TheVariants.{Send, Recv, Check, Mark}
@@ -21,11 +21,6 @@ event_from_kept bodies states (KeptCheck start round len of_round) =
 event_from_kept bodies states (KeptLargeCheck before round) =
     Check (slice_index_or states before []) round
 event_from_kept bodies states (KeptMark from round) = Mark from round
-
--- how a check that stores so many bytes after others is kept
-abbrev pub kept_check : ℕ → ℕ → Option ℕ → KeptEvent
-kept_check start len (Some round) = KeptCheck start round len true
-kept_check start len None = KeptCheck start 0 len false
 
 -- its bytes and its state are among so many
 abbrev pub IsKeptWithin : ℕ → ℕ → KeptEvent → Type 0

@@ -52,20 +52,6 @@ impl Model for History {
     ghost invariant = { λ h. IsHistory (map process_kept h.processes.items) };
 }
 
-/// So many processes that have done nothing yet.
-fn fresh_tapes(alloc: Global, n: u32) -> Result<Vec<ProcessTape>, AllocError>
-    ensures { IfOk result (λ processes. map process_kept processes.items ≡ replicate n fresh) }
-{
-    let mut processes = Vec::with_capacity(alloc, n as usize)?;
-    for _p in 0..n {
-        processes.push(ProcessTape {
-            incarnation: 0,
-            tape: Tape::new(alloc),
-        })?;
-    }
-    Ok(processes)
-}
-
 impl History {
     /// The history of `n` processes that have done nothing yet.
     pub fn new(alloc: Global, n: u32) -> Result<History, CountError>
@@ -75,7 +61,13 @@ impl History {
         if n == 0 || n as usize > MOST_PROCESSES {
             return Err(CountError::BadCount);
         }
-        let processes = fresh_tapes(alloc, n)?;
+        let mut processes = Vec::with_capacity(alloc, n as usize)?;
+        for _p in 0..n {
+            processes.push_reserved(ProcessTape {
+                incarnation: 0,
+                tape: Tape::new(alloc),
+            });
+        }
         Ok(History { processes })
     }
 

@@ -8,14 +8,12 @@ ghost use Rattle.line_tape.specs.Kept.{IsSettled};
 ghost use Rattle.line_tape.specs.Restart.{restarted_event};
 ghost use Rattle.line_tape.specs.Shown.{event_of_ref};
 
-mod checks;
 mod copies;
 mod restarts;
 mod starts;
 
 use crate::events::{EventRef, State};
 use crate::limits::MOST_EVENTS;
-use checks::{keep_check, kept_round};
 use line_names::{MOST_BODY, MsgName, ProcId};
 use restarts::restart_events;
 use starts::{bytes_before, states_before};
@@ -191,42 +189,8 @@ impl Log {
             .push_reserved(KeptEvent::Recv { message: *message });
     }
 
-    /// Adds a check with a small state at the end, in room that was made for it: its bytes go after
-    /// the others.
-    fn append_small_check(&mut self, state: &[u8], round: Option<u32>)
-        requires room { 0 < self.old.room }
-        requires bodies { 0 < self.old.bodies }
-        requires few { length self.old.events < MOST_EVENTS }
-        requires small { length state.now ≤ MOST_BODY }
-        ensures events { self.new.events ≡ self.old.events ++ Check state.now round ∷ [] }
-        ensures room { self.old.room ≤ self.new.room + 1 }
-        ensures bodies { self.old.bodies ≤ self.new.bodies + 1 }
-        ensures states { self.new.states ≡ self.old.states }
-    {
-        let start = self.bodies.len() as u32;
-        let kept = keep_check(start, state.len() as u8, round);
-        self.bodies.extend_from_slice(state).unwrap();
-        self.events.push_reserved(kept);
-    }
-
-    /// Adds a check with a large state at the end, in room that was made for it: the state goes
-    /// after the others.
-    fn append_large_check(&mut self, state: State, round: Option<u32>)
-        requires room { 0 < self.old.room }
-        requires states { 0 < self.old.states }
-        requires few { length self.old.events < MOST_EVENTS }
-        ensures events { self.new.events ≡ self.old.events ++ Check state round ∷ [] }
-        ensures room { self.old.room ≤ self.new.room + 1 }
-        ensures bodies { self.new.bodies ≡ self.old.bodies }
-        ensures states { self.old.states ≤ self.new.states + 1 }
-    {
-        let before = self.states.len() as u32;
-        self.events
-            .push_reserved(KeptEvent::LargeCheck { before, round });
-        self.states.push_reserved(state);
-    }
-
-    /// Adds a check at the end, in room that was made for it.
+    /// Adds a check at the end, in room that was made for it: the bytes of a small state go after
+    /// the others, and a large state after the large ones.
     pub(crate) fn append_check(&mut self, state: State, round: Option<u32>)
         requires room { 0 < self.old.room }
         requires bodies { 0 < self.old.bodies }
@@ -237,10 +201,21 @@ impl Log {
         ensures bodies { self.old.bodies ≤ self.new.bodies + 1 }
         ensures states { self.old.states ≤ self.new.states + 1 }
     {
-        if state.bytes().len() <= MOST_BODY {
-            self.append_small_check(state.bytes(), round);
+        let small = state.bytes();
+        if small.len() <= MOST_BODY {
+            let kept = KeptEvent::Check {
+                start: self.bodies.len() as u32,
+                round: round.unwrap_or(0),
+                len: small.len() as u8,
+                of_round: round.is_some(),
+            };
+            self.bodies.extend_from_slice(small).unwrap();
+            self.events.push_reserved(kept);
         } else {
-            self.append_large_check(state, round);
+            let before = self.states.len() as u32;
+            self.events
+                .push_reserved(KeptEvent::LargeCheck { before, round });
+            self.states.push_reserved(state);
         }
     }
 
@@ -356,7 +331,7 @@ impl<'a> Events<'a> {
                 let start = *start as usize;
                 EventRef::Check {
                     state: &bodies[start..start + *len as usize],
-                    round: kept_round(*round, *of_round),
+                    round: if *of_round { Some(*round) } else { None },
                 }
             }
             KeptEvent::LargeCheck { before, round } => EventRef::Check {

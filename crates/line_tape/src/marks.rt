@@ -49,22 +49,6 @@ fn greatest(numbers: &BTreeMap<u32, u64>) -> Option<u32>
     }
 }
 
-/// Takes off the marks of the checks after this one. It takes no memory, and looks at the marks
-/// that it takes off and at one more.
-fn cut_after(numbers: &mut BTreeMap<u32, u64>, last: u32)
-    ensures kept { checks_marked numbers.new.entries
-        ≡ filter (is_kept (AtCheck last)) (checks_marked numbers.old.entries) }
-    ensures numbered { (next : ℕ) → AreNumberedBelow next numbers.old.entries
-        → AreNumberedBelow next numbers.new.entries }
-{
-    while let Some(check) = greatest(numbers) {
-        if check <= last {
-            return;
-        }
-        let _ = numbers.pop_last();
-    }
-}
-
 impl Damaged {
     /// No marks yet.
     fn new(alloc: Global) -> Damaged
@@ -97,13 +81,19 @@ impl Damaged {
         Ok(())
     }
 
-    /// Takes the marks off the checks that come after a choice.
+    /// Takes the marks off the checks that come after a choice. It takes no memory, and looks at
+    /// the marks that it takes off and at one more.
     fn restart(&mut self, choice: Choice)
         ensures { self.new ≡ filter (is_kept choice) self.old }
     {
-        match choice {
-            Choice::Check(last) => cut_after(&mut self.numbers, last),
-            Choice::Now => {}
+        let Choice::Check(last) = choice else {
+            return;
+        };
+        while let Some(check) = greatest(&self.numbers) {
+            if check <= last {
+                return;
+            }
+            let _ = self.numbers.pop_last();
         }
     }
 

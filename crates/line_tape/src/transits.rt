@@ -30,14 +30,6 @@ impl Model for ReceivedFlags {
 }
 
 impl ReceivedFlags {
-    /// None of so many sends.
-    fn none(alloc: Global, sends: u32) -> Result<ReceivedFlags, AllocError>
-        ensures { IfOk result (λ received. received ≡ replicate sends false) }
-    {
-        let sends = vec![in alloc; false; sends as usize]?;
-        Ok(ReceivedFlags { sends })
-    }
-
     /// The send of that number too, if it is one of these.
     fn add(&mut self, number: u32)
         ensures { self.new ≡ slice_set self.old number true }
@@ -64,7 +56,9 @@ fn none_received(
     for q in 0..n {
         let p = ProcId::try_new(q, n).unwrap();
         let sends = history.tape(p).sends_before(line.at(p));
-        received.push(ReceivedFlags::none(alloc, sends)?)?;
+        received.push(ReceivedFlags {
+            sends: vec![in alloc; false; sends as usize]?,
+        })?;
     }
     Ok(received)
 }

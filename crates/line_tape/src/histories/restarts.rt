@@ -27,17 +27,6 @@ fn restart_process(process: &mut ProcessTape, choice: Choice)
     process.tape.restart(choice);
 }
 
-/// Whether a process with this incarnation can go on from a choice.
-fn has_further(incarnation: u16, choice: Choice) -> bool
-    ensures { (process : Process) → process.incarnation ≡ incarnation
-        → IsTrue result ↔ HasFurther process choice }
-{
-    match choice {
-        Choice::Check(_) => incarnation != LAST_INCARNATION,
-        Choice::Now => true,
-    }
-}
-
 impl History {
     /// Whether each process that goes back at the line has a further incarnation, so that a restart
     /// there can be.
@@ -47,7 +36,7 @@ impl History {
         let n = self.n();
         for q in 0..n {
             let p = ProcId::try_new(q, n).unwrap();
-            if !has_further(self.incarnation(p), line.at(p)) {
+            if matches!(line.at(p), Choice::Check(_)) && self.incarnation(p) == LAST_INCARNATION {
                 return false;
             }
         }

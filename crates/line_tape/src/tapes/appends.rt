@@ -1,11 +1,12 @@
 //! What each kind of event adds to a tape, in room that was made for it.
+//!
+//! Where a list that `spare` does not count has no room for one more, no further event counts.
 ghost use Rattle.std.specs.Prelude.{◌≡◌, ◌<◌, ◌≤◌, ◌+◌, [], ◌∷◌, ◌++◌, length};
 ghost use Rattle.line_names.specs.declared.limits.TheConstants.{MOST_BODY};
 ghost use Rattle.line_tape.specs.declared.events.Event.TheVariants.{Check, Mark, Recv, Send};
 ghost use Rattle.line_tape.specs.declared.limits.TheConstants.{MOST_STATE};
 ghost use Rattle.line_tape.specs.History.{IsTape};
 
-use super::rooms::{count_behind_check, count_behind_receipt, count_behind_send};
 use super::{CheckRow, Tape};
 use crate::events::State;
 use crate::limits::MOST_EVENTS;
@@ -25,7 +26,9 @@ impl Tape {
         self.incarnations.push_reserved(inc);
         self.addressees.push_reserved(to);
         self.log.append_send(to, inc, body);
-        self.spare = count_behind_send(self.spare, &self.log);
+        let beside = self.log.room_for_bodies();
+        let spare = if beside > 0 { self.spare - 1 } else { 0 };
+        self.spare = spare;
     }
 
     /// Adds the receipt of a message: what `append` does with one.
@@ -38,7 +41,9 @@ impl Tape {
     {
         self.receipts.note(message);
         self.log.append_receipt(message);
-        self.spare = count_behind_receipt(self.spare, &self.receipts);
+        let beside = self.receipts.has_room_for_senders(1);
+        let spare = if beside { self.spare - 1 } else { 0 };
+        self.spare = spare;
     }
 
     /// Adds a check, with the row of it.
@@ -58,7 +63,11 @@ impl Tape {
         };
         self.checks.push_reserved(row);
         self.log.append_check(state, round);
-        self.spare = count_behind_check(self.spare, &self.log, &self.checks);
+        let rows = self.checks.capacity() - self.checks.len();
+        let states = self.log.room_for_states();
+        let beside = self.log.room_for_bodies().min(rows.min(states));
+        let spare = if beside > 0 { self.spare - 1 } else { 0 };
+        self.spare = spare;
     }
 
     /// Adds the receipt of a marker: what `append` does with one.

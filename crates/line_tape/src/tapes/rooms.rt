@@ -43,51 +43,6 @@ pub(super) fn has_room_beside(
         && receipts.has_room_for_senders(k)
 }
 
-/// The count of further events that have room, after a receipt: none where no further sender has
-/// it.
-pub(super) fn count_behind_receipt(spare: u32, receipts: &Receipts) -> u32
-    requires { 0 < spare }
-    ensures less { result ≤ spare - 1 }
-    ensures least { min (spare - 1) receipts.now.senders ≤ result }
-    ensures one_sender { min 1 result ≤ receipts.now.senders }
-{
-    if receipts.has_room_for_senders(1) {
-        spare - 1
-    } else {
-        0
-    }
-}
-
-/// The count of further events that have room, after a send: none where no further body has it.
-pub(super) fn count_behind_send(spare: u32, log: &Log) -> u32
-    requires { 0 < spare }
-    ensures less { result ≤ spare - 1 }
-    ensures least { min (spare - 1) log.now.bodies ≤ result }
-    ensures one_body { min 1 result ≤ log.now.bodies }
-{
-    if log.room_for_bodies() > 0 {
-        spare - 1
-    } else {
-        0
-    }
-}
-
-/// The count of further events that have room, after a check: none where no further check has it.
-pub(super) fn count_behind_check(spare: u32, log: &Log, checks: &Vec<CheckRow>) -> u32
-    requires { 0 < spare }
-    ensures less { result ≤ spare - 1 }
-    ensures least { min (spare - 1) (min log.now.bodies
-        (min (vec_capacity checks.now - vec_len checks.now) log.now.states)) ≤ result }
-    ensures one_check { min 1 result ≤ min log.now.bodies
-        (min (vec_capacity checks.now - vec_len checks.now) log.now.states) }
-{
-    if checks.len() < checks.capacity() && log.room_for_bodies() > 0 && log.room_for_states() > 0 {
-        spare - 1
-    } else {
-        0
-    }
-}
-
 impl Tape {
     /// Makes room for so many further events, and counts anew for how many there is room.
     #[inline(never)]
