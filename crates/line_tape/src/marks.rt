@@ -3,7 +3,6 @@ ghost use Rattle.std.specs.Prelude.{◌≡◌, ◌≢◌, ◌<◌, ◌≤◌, �
 ghost use Rattle.std.specs.Prelude.{All, IsTrue, length, filter, slice_get, IfOk, IfSome, None};
 ghost use Rattle.std.specs.Prelude.{OnOk, OnErr, IsErrOf, Some};
 ghost use Rattle.std.specs.List.{list_any};
-ghost use Rattle.line_names.specs.declared.choices.Choice.TheVariants.{Check as AtCheck};
 ghost use Rattle.line_tape.specs.Marked.{checks_marked, AreNumberedBelow};
 ghost use Rattle.line_tape.specs.Restart.{is_kept, restarted_marks};
 ghost use Rattle.line_tape.specs.Survival.{is_allowed, is_barred, is_damaged};

@@ -1,6 +1,6 @@
 //! What is in transit at a line.
-ghost use Rattle.std.specs.Prelude.{◌≡◌, ◌<◌, ◌++◌, ◌∷◌, ◌↔◌, [], ℕ, List, false, true, map};
-ghost use Rattle.std.specs.Prelude.{length, replicate, slice_set, IfOk, IsTrue, OnOk};
+ghost use Rattle.std.specs.Prelude.{◌≡◌, ◌<◌, ◌++◌, ◌∷◌, ◌↔◌, [], ℕ, List, true, map};
+ghost use Rattle.std.specs.Prelude.{length, slice_set, IfOk, IsTrue, OnOk};
 ghost use Rattle.line_names.specs.declared.choices.Choice.{Choice};
 ghost use Rattle.line_tape.specs.declared.events.Event.{Event};
 ghost use Rattle.line_tape.specs.Fit.{IsSentTo};

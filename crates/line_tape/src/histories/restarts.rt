@@ -1,7 +1,6 @@
 //! A restart of a whole history at a line.
 ghost use Rattle.std.specs.Prelude.{◌≡◌, ◌≤◌, ◌↔◌, ℕ, IsTrue};
 ghost use Rattle.line_tape.specs.Front.{HasChoice};
-ghost use Rattle.line_tape.specs.History.{Process};
 ghost use Rattle.line_tape.specs.Line.{IsLine};
 ghost use Rattle.line_tape.specs.Plain.{process_kept, tape_room};
 ghost use Rattle.line_tape.specs.Restart.{restarted_history, restarted_process, HasFurther};

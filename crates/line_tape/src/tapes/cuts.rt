@@ -35,17 +35,6 @@ fn place_checks(events: &Events<'_>, settled: usize, rows: &mut Vec<CheckRow>)
 }
 
 impl Tape {
-    /// How many checks stand before a choice or are it.
-    fn checks_before(&self, choice: Choice) -> u32
-        requires { HasChoice self.now.events choice }
-        ensures { result ≡ checks (front self.now.events choice) }
-    {
-        match choice {
-            Choice::Check(c) => c,
-            Choice::Now => self.checks(),
-        }
-    }
-
     /// Lets go of what stands after a choice. It looks at that alone.
     fn cut(&mut self, choice: Choice)
         requires { HasChoice self.old.events choice }
@@ -53,7 +42,10 @@ impl Tape {
         ensures room { self.old.room ≤ self.new.room }
     {
         let kept = self.row(choice);
-        let checks = self.checks_before(choice);
+        let checks = match choice {
+            Choice::Check(c) => c,
+            Choice::Now => self.checks(),
+        };
         let end = kept.place as usize;
         self.receipts.cut(kept.receipts);
         self.log.truncate(end);
