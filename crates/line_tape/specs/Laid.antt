@@ -1,7 +1,7 @@
 -- How a tape keeps its events: each in a few bytes, and beside them the bytes of bodies and of
 -- small states, and the large states.
 use Rattle.std.specs.Prelude.{◌≡◌, ◌<◌, ◌≤◌, ◌+◌, ℕ, suc, List, [], ◌∷◌, Option, Some, None, drop}
-use Rattle.std.specs.Prelude.{length, slice_index_or, take, false, if◌then◌else◌}
+use Rattle.std.specs.Prelude.{slice_index_or, take, false, if◌then◌else◌}
 use Rattle.line_names.specs.declared.limits.TheConstants.{MOST_BODY}
 use Rattle.line_tape.specs.declared.events.Event.{Event}
 use Rattle.line_tape.specs.declared.events.Event.TheVariants.{Send, Recv, Check, Mark}

@@ -22,7 +22,6 @@ use crate::limits::{MOST_EVENTS, MOST_STATE};
 use crate::logs::{Events, Log};
 use crate::receipts::Receipts;
 use line_names::{Choice, MOST_BODY, MsgName, ProcId};
-use rooms::has_room_beside;
 use std::alloc::{AllocError, Global};
 use std::marker::Model;
 use thiserror::Error;
@@ -270,9 +269,16 @@ impl Tape {
         ensures succeeds { k ≤ self.old.room → IsOk result }
         ensures room { self.old.room ≤ self.new.room }
     {
-        if k <= self.spare
-            && (k <= 1 || has_room_beside(k as usize, &self.log, &self.receipts, &self.checks))
-        {
+        if k <= 1 && k <= self.spare {
+            return Ok(());
+        }
+        let senders = self.receipts.has_room_for_senders(k as usize);
+        let rows = self.checks.capacity() - self.checks.len();
+        let beside = self
+            .log
+            .room_for_bodies()
+            .min(rows.min(self.log.room_for_states()));
+        if k <= self.spare && senders && k as usize <= beside {
             return Ok(());
         }
         self.make_room(k)

@@ -1,8 +1,8 @@
 //! For how much a tape has room.
-ghost use Rattle.std.specs.Prelude.{◌≡◌, ◌≤◌, ◌<◌, ◌-◌, ◌^◌, min, vec_len, vec_capacity, ◌↔◌, OnOk};
-ghost use Rattle.std.specs.Prelude.{IsOk, IsTrue};
+ghost use Rattle.std.specs.Prelude.{◌≡◌, ◌≤◌, ◌<◌, ◌-◌, ◌^◌, min, vec_len, vec_capacity, OnOk};
+ghost use Rattle.std.specs.Prelude.{IsOk};
 
-use super::{CheckRow, Tape};
+use super::Tape;
 use crate::logs::Log;
 use crate::receipts::Receipts;
 use line_names::ProcId;
@@ -25,22 +25,6 @@ fn least_room(
     let named = addressees.capacity() - addressees.len();
     let least = seen.min(sent.min(named));
     least.min(u32::MAX as usize) as u32
-}
-
-/// Whether so many further events have room in the lists that a tape does not count: those of
-/// bodies and of senders, and of what checks alone take.
-pub(super) fn has_room_beside(
-    k: usize,
-    log: &Log,
-    receipts: &Receipts,
-    checks: &Vec<CheckRow>,
-) -> bool
-    ensures { IsTrue result ↔ (k ≤ min (min log.now.bodies receipts.now.senders)
-        (min (vec_capacity checks.now - vec_len checks.now) log.now.states)) }
-{
-    let rows = checks.capacity() - checks.len();
-    k <= log.room_for_bodies().min(rows.min(log.room_for_states()))
-        && receipts.has_room_for_senders(k)
 }
 
 impl Tape {
