@@ -1,5 +1,5 @@
 -- Commands in blocks: one block more behind the others, and how many commands there are.
-use Rattle.std.proofs.Common.{◌≡◌, ◌<◌, ◌+◌, ◌*◌, ◌^◌, List, [], ◌∷◌, ◌++◌, length, refl, sym, ap, ◌∙◌, arith, length-append, append_assoc}
+use Rattle.std.proofs.Common.{◌≡◌, ◌<◌, ◌+◌, ◌*◌, ◌^◌, ℕ, List, [], ◌∷◌, ◌++◌, length, take, refl, sym, ap, ◌∙◌, arith, length-append, append_assoc}
 use Rattle.std.proofs.lemmas.List.{append-nil}
 use Rattle.std.specs.List.{AllByRecursion}
 use Rattle.line_scripts.specs.declared.blocks.Block.{Block}
@@ -7,8 +7,8 @@ use Rattle.line_scripts.specs.declared.blocks.TheConstants.{IN_BLOCK}
 use Rattle.line_scripts.specs.declared.commands.Command.{Command}
 use Rattle.line_scripts.specs.declared.keeping.Kept.{Kept}
 use Rattle.line_scripts.specs.Blocks.{AreCommandBlocks, HasCommand, IsFull, commands_in, commands_of_block, commands_of_blocks}
-use Rattle.line_scripts.specs.Keeping.{commands_of_kept}
-use Rattle.line_scripts.proofs.KeepingLemmas.{length-unpacked}
+use Rattle.line_scripts.specs.Keeping.{ArePacked, behind, commands_of_kept, long_of, with_bytes}
+use Rattle.line_scripts.proofs.KeepingLemmas.{length-unpacked, unpacked_behind}
 
 -- the commands of one block more are behind the others
 pub blocks_behind : (bs : List Block) (b : Block) → commands_of_blocks (bs ++ b ∷ []) ≡ commands_in bs b
@@ -43,3 +43,12 @@ few_in bs last known = omega (arith, length_in bs last known, known.few, known.w
 pub full_ones_have : (bs : List Block) → AllByRecursion IsFull bs → AllByRecursion HasCommand bs
 full_ones_have [] each = tt
 full_ones_have (b ∷ bs) (full, each) = (record { packed = full.packed; some = omega (arith, full.long) }, full_ones_have bs each)
+
+-- the commands of blocks and of one more, which is read next
+pub kept_next : (all : List Command) (full : List Block) (ks later : List Kept) (old new : List ℕ) (k : Kept) → all ≡ commands_of_blocks full ++ commands_of_kept ks old → later ≡ ks ++ k ∷ []
+    → long_of k ≡ length (behind old new) → take (length old) new ≡ old → ArePacked ks old
+    → all ++ with_bytes k (behind old new) ∷ [] ≡ commands_of_blocks full ++ commands_of_kept later new
+kept_next all full ks later old new k before more long kept packed =
+    let one : List Command = with_bytes k (behind old new) ∷ [] in
+    ap (λ (cs : List Command). cs ++ one) before ∙ append_assoc (commands_of_blocks full) (commands_of_kept ks old) one
+    ∙ ap (λ (cs : List Command). commands_of_blocks full ++ cs) (sym (unpacked_behind ks later old new k more long kept packed))

@@ -94,34 +94,6 @@ fn make_room(alloc: Global, full: &mut VecDeque<Block>, last: &mut Block) -> Res
     begin_block(alloc, full, last)
 }
 
-// Puts the command of a record after others. Of one that is refused the bytes may be there too.
-#[inline(always)]
-fn put_behind(
-    alloc: Global,
-    n: u32,
-    row: &FieldRow<'_>,
-    kept: &mut Vec<Kept>,
-    bytes: &mut Vec<u8>,
-) -> Result<(), ReadError>
-    requires few { n ≤ MOST_PROCESSES }
-    requires packed { ArePacked kept.old.items bytes.old.items }
-    ensures exact { Gives (λ _. commands_of_kept kept.new.items bytes.new.items) result
-        (with_command (commands_of_kept kept.old.items bytes.old.items)
-        (spec.command_in n row.now)) }
-    ensures packed { OnOk result (ArePacked kept.new.items bytes.new.items) }
-    ensures long { OnOk result (length kept.new.items ≡ length kept.old.items + 1) }
-    ensures err { OnErr result (kept.new.items ≡ kept.old.items) }
-    ensures bytes { take (length bytes.old.items) bytes.new.items ≡ bytes.old.items }
-{
-    match command_in(alloc, n, row, bytes) {
-        Ok(command) => {
-            kept.push(command)?;
-            Ok(())
-        }
-        Err(error) => Err(error),
-    }
-}
-
 impl Blocks {
     /// No commands. It takes no memory.
     pub(crate) fn new(alloc: Global) -> Blocks
@@ -159,9 +131,13 @@ impl Blocks {
         ensures err { OnErr result (self.new ≡ self.old) }
     {
         make_room(alloc, &mut self.full, &mut self.last)?;
+        self.last.kept.reserve(1)?;
         let long = self.last.bytes.len();
-        match put_behind(alloc, n, row, &mut self.last.kept, &mut self.last.bytes) {
-            Ok(()) => Ok(()),
+        match command_in(alloc, n, row, &mut self.last.bytes) {
+            Ok(command) => {
+                self.last.kept.push_reserved(command);
+                Ok(())
+            }
             Err(error) => {
                 self.last.bytes.truncate(long);
                 Err(error)
