@@ -129,35 +129,8 @@ fn world_of(alloc: Global, script: &KeptScript) -> Result<World, TextFault>
     }
 }
 
-// Does the commands of a script on this machine. It makes the room for the text of what they are
-// told, and lends it to what puts that text.
-fn run_on<K: Sink>(
-    alloc: Global,
-    world: &mut World,
-    commands: &mut Commands,
-    sink: &mut K,
-) -> Result<u64, TextFault>
-    requires { length commands.old + 2 < 2 ^ 64 }
-    ensures ok { IfOk result
-        (λ refused. spec.Runs world.old commands.old refused (K.taken sink.old)
-        (K.taken sink.new)) }
-    ensures write { IfErr result (λ fault. fault.code ≡ WRITE_FAULT
-        → (fault.record_number ≡ 0) × (K.faults sink.new ≡ one_more (K.faults sink.old))
-        × spec.RunsFront world.old commands.old (K.taken sink.old) (K.taken sink.new)) }
-    ensures memory { IfErr result (λ fault. fault.code ≡ 0
-        → ((fault.record_number ≡ 0) × (sink.new ≡ sink.old))
-        ⊎ spec.StopsAt world.old commands.old fault.record_number
-        (Puts (K.taken sink.old) (K.taken sink.new))) }
-    ensures codes { IfErr result (λ fault. (fault.code ≡ 0) ⊎ (fault.code ≡ WRITE_FAULT)) }
-    ensures sound { OnOk result (K.faults sink.new ≡ K.faults sink.old) }
-{
-    let Ok(mut writer) = RecordWriter::with_room(alloc) else {
-        return Err(fault_of_code(0));
-    };
-    run_commands(alloc, world, commands, sink, &mut writer)
-}
-
-// Runs a script from its start. It makes the machine, and lends it to what does the commands.
+// Runs a script from its start. It makes the machine and the room for the text of what its commands
+// are told, and lends both to what does them.
 fn run_script<K: Sink>(
     alloc: Global,
     script: &mut KeptScript,
@@ -179,8 +152,11 @@ fn run_script<K: Sink>(
     ensures codes { IfErr result (λ fault. (fault.code ≡ 0) ⊎ (fault.code ≡ WRITE_FAULT)) }
     ensures sound { OnOk result (K.faults sink.new ≡ K.faults sink.old) }
 {
+    let Ok(mut writer) = RecordWriter::with_room(alloc) else {
+        return Err(fault_of_code(0));
+    };
     let mut world = world_of(alloc, script)?;
-    run_on(alloc, &mut world, &mut script.commands, sink)
+    run_commands(alloc, &mut world, &mut script.commands, sink, &mut writer)
 }
 
 // The script that the whole input spells. No text of the input is kept.

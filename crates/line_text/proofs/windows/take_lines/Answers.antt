@@ -1,4 +1,4 @@
-use Rattle.std.proofs.Common.{◌≡◌, ◌≤◌, ◌<◌, ◌-◌, ◌+◌, ◌∙◌, ◌++◌, List, ℕ, Some, ap, arith, drop, length, subst, sym, take}
+use Rattle.std.proofs.Common.{◌≡◌, ◌≤◌, ◌-◌, ◌+◌, ◌∙◌, ◌++◌, List, ℕ, Some, ap, arith, drop, length, subst, sym, take}
 use Rattle.std.proofs.lemmas.List.{drop-take, length-drop, length-take-le, take-append-le, take-take}
 use Rattle.std.specs.List.{copy_within}
 use Rattle.line_text.proofs.WindowLemmas.{feed_found, lines_taken, up_to_feed}
