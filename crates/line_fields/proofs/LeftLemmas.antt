@@ -1,5 +1,5 @@
 -- What is left of a text, to the reader of lines or to `csv`.
-use Rattle.std.proofs.Common.{◌≡◌, ◌==◌, ◌∙◌, ◌∷◌, [], ℕ, List, Bool, true, false, Option, Some, None, Bor, refl, sym, ap, length}
+use Rattle.std.proofs.Common.{◌≡◌, ◌≢◌, get_or, ne_eqb, eqb-true, arith, ◌==◌, ◌∙◌, ◌∷◌, [], ℕ, List, Bool, true, false, Option, Some, None, Bor, refl, sym, ap, length}
 use Rattle.std.specs.Global.{Box}
 use Rattle.std.specs.Prelude.{Err, IfOk, MatchBool, Ok, OnErr, Result, is_some}
 use Rattle.csv.specs.declared.reader.Reader.{Reader}
@@ -52,6 +52,18 @@ byte_first [] some = cc some
 byte_first (byte ∷ rest) some = refl
 
 -- it begins with no end of a line where it begins with neither of the two
+pub no_feed_first : (text : List ℕ) → get_or text 0 0 ≢ 10 → begins_with_feed text ≡ false
+no_feed_first [] other = refl
+no_feed_first (byte ∷ rest) other = ne_eqb byte 10 other
+
+pub no_return_first : (text : List ℕ) → get_or text 0 0 ≢ 13 → begins_with_return text ≡ false
+no_return_first [] other = refl
+no_return_first (byte ∷ rest) other = ne_eqb byte 13 other
+
+pub nothing_there : (text : List ℕ) → (length text == 0) ≡ true → text ≡ []
+nothing_there [] none = refl
+nothing_there (byte ∷ rest) none = let at = eqb-true (length (byte ∷ rest)) 0 none in absurd (omega (arith, at))
+
 pub no_end_first : (text : List ℕ) → begins_with_feed text ≡ false → begins_with_return text ≡ false → begins_with_end text ≡ false
 no_end_first [] feed return = refl
 no_end_first (byte ∷ rest) feed return = rw (feed, return) refl

@@ -14,6 +14,18 @@ join_more {A} f name [] = sym (append-nil name)
 join_more {A} f name (x ∷ items) =
     ap (λ (t : List ℕ). name ++ (44 ∷ t)) (join_more f (f x) items)
 
+-- the same before an end
+pub join_ends : {A : Type 0} (f : A → List ℕ) (name : List ℕ) (items : List A) (end : List ℕ) → join_with_byte 44 (name ∷ map f items) ++ end ≡ name ++ (flat_map (λ (x : A). 44 ∷ f x) items ++ end)
+join_ends {A} f name items end = ap (λ (t : List ℕ). t ++ end) (join_more f name items) ∙ append_assoc name (flat_map (λ (x : A). 44 ∷ f x) items) end
+
+-- what is left of the parts of items, before an end
+pub parts_left : {A : Type 0} (f : A → List ℕ) (items : List A) (i : ℕ) (d : A) (end : List ℕ) → i < length items
+    → flat_map f (drop i items) ++ end ≡ f (get_or items i d) ++ (flat_map f (drop (i + 1) items) ++ end)
+parts_left {A} f items i d end lt = ap (λ (xs : List A). flat_map f xs ++ end) (drop_more items i d lt) ∙ append_assoc (f (get_or items i d)) (flat_map f (drop (i + 1) items)) end
+
+pub end_left : {A : Type 0} (f : A → List ℕ) (items : List A) (i : ℕ) (end : List ℕ) → length items ≤ i → flat_map f (drop i items) ++ end ≡ end
+end_left {A} f items i end le = ap (λ (xs : List A). flat_map f xs ++ end) (drop_all i items le)
+
 -- a name behind a text, and numbers behind that
 pub begun : (held named all name numbers : List ℕ) → named ≡ held ++ name → all ≡ named ++ flat_map (λ n. 44 ∷ decimal n) numbers → all ≡ held ++ join_with_byte 44 (name ∷ map decimal numbers)
 begun held named all name numbers a b =

@@ -1,9 +1,8 @@
 //! Which bytes an input text may have.
 
-ghost use Rattle.std.specs.Prelude.{◌≡◌, ◌∷◌, ℕ, List};
+ghost use Rattle.std.specs.Prelude.{◌≡◌};
 ghost use Rattle.std.specs.List.{list_all};
-ghost use Rattle.line_fields.specs.Bytes.{is_input_byte, is_common, is_input_text, is_line_byte};
-ghost use Rattle.line_fields.specs.Bytes.{is_line_text};
+ghost use Rattle.line_fields.specs.Bytes.{is_common, is_input_text, is_line_text};
 
 // Bytes that may stand anywhere are looked for in blocks of so many.
 const BLOCK: usize = 4096;
@@ -27,13 +26,6 @@ fn are_common(text: &[u8]) -> bool
     common
 }
 
-// Whether a byte may stand before another.
-fn is_allowed_before(byte: u8, next: u8) -> bool
-    ensures { (rest : List ℕ) → result ≡ is_input_byte byte (next ∷ rest) }
-{
-    is_common(byte) || (byte == b'\r' && next == b'\n')
-}
-
 // Whether each byte may stand where it does. It always looks at all of them, each with the next, so
 // that it is compiled to look at many at once.
 fn are_allowed(text: &[u8]) -> bool
@@ -45,7 +37,8 @@ fn are_allowed(text: &[u8]) -> bool
     let last = text.len() - 1;
     let mut allowed = true;
     for i in 0..last {
-        allowed &= is_allowed_before(text[i], text[i + 1]);
+        let ends_line = (text[i] == b'\r') & (text[i + 1] == b'\n');
+        allowed &= is_common(text[i]) | ends_line;
     }
     allowed & is_common(text[last])
 }
@@ -66,13 +59,6 @@ pub fn is_plain(text: &[u8]) -> bool
     are_allowed(rest)
 }
 
-// Whether a byte may stand in a line.
-fn is_line_byte(byte: u8) -> bool
-    ensures { result ≡ is_line_byte byte }
-{
-    b' ' <= byte && byte <= b'~' && byte != b'"'
-}
-
 /// Whether a line, given without its end, has only bytes from the blank to the tilde but the double
 /// quote.
 ///
@@ -82,7 +68,7 @@ pub fn is_plain_line(line: &[u8]) -> bool
 {
     let mut plain = true;
     for byte in line {
-        plain &= is_line_byte(*byte);
+        plain &= b' ' <= *byte && *byte <= b'~' && *byte != b'"';
     }
     plain
 }

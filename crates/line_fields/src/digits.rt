@@ -82,30 +82,6 @@ fn first_four(text: &[u8]) -> Option<[u8; 4]>
     Some((high * u8x4::splat(16) + low).to_array())
 }
 
-// Puts the bytes that the first eight digits of a text spell after those of a list, and answers
-// what is left of the text: all of it where it has fewer bytes, or one that is no digit. There is
-// room for them.
-#[inline(always)]
-fn four_into<'a>(bytes: &mut Vec<u8>, text: &'a [u8]) -> &'a [u8]
-    requires { vec_len bytes.old + length text.now / 2 ≤ vec_capacity bytes.old }
-    ensures same { with_front bytes.old.items (hex text.entry.now)
-        ≡ with_front bytes.new.items (hex result.now) }
-    ensures room { vec_len bytes.new + length result.now / 2 ≤ vec_capacity bytes.new }
-    ensures longer { vec_len bytes.old ≤ vec_len bytes.new }
-    ensures kept { take (vec_len bytes.old) bytes.new.items ≡ bytes.old.items }
-{
-    if text.len() < DIGITS_LEFT_AT_ONCE {
-        return text;
-    }
-    let Some(four) = first_four(text) else {
-        return text;
-    };
-    let Ok(()) = bytes.extend_from_slice(&four) else {
-        unreachable!()
-    };
-    &text[DIGITS_LEFT_AT_ONCE..]
-}
-
 // Puts the bytes that a text spells after those of a list, eight at a time, up to the first sixteen
 // bytes that are not all digits, then the four that the next eight digits spell, and answers what
 // is left of the text. There is room for them.
@@ -123,23 +99,21 @@ pub(crate) fn eights_into<'a>(bytes: &mut Vec<u8>, text: &'a [u8]) -> &'a [u8]
         let Some(eight) = first_eight(rest) else {
             return rest;
         };
-        push_eight(bytes, &eight);
+        let Ok(()) = bytes.extend_from_slice(&eight) else {
+            unreachable!()
+        };
         rest = &rest[DIGITS_AT_ONCE..];
     }
-    four_into(bytes, rest)
-}
-
-// Writes eight bytes, where there is room for them.
-#[inline(always)]
-fn push_eight(out: &mut Vec<u8>, eight: &[u8; 8])
-    requires { vec_len out.old + 8 ≤ vec_capacity out.old }
-    ensures text { out.new.items ≡ out.old.items ++ eight.now }
-    ensures len { vec_len out.new ≡ vec_len out.old + 8 }
-    ensures capacity { vec_capacity out.old ≤ vec_capacity out.new }
-{
-    let Ok(()) = out.extend_from_slice(eight) else {
+    if rest.len() < DIGITS_LEFT_AT_ONCE {
+        return rest;
+    }
+    let Some(four) = first_four(rest) else {
+        return rest;
+    };
+    let Ok(()) = bytes.extend_from_slice(&four) else {
         unreachable!()
     };
+    &rest[DIGITS_LEFT_AT_ONCE..]
 }
 
 // The sixteen digits, of lower case, that spell the first eight bytes of a list.
@@ -158,19 +132,6 @@ fn digits_of_eight(bytes: &[u8]) -> [u8; 16]
     is_number.select(number, letter).to_array()
 }
 
-// Writes sixteen digits, where there is room for them.
-#[inline(always)]
-fn push_sixteen(out: &mut Vec<u8>, digits: &[u8; 16])
-    requires { vec_len out.old + 16 ≤ vec_capacity out.old }
-    ensures text { out.new.items ≡ out.old.items ++ digits.now }
-    ensures len { vec_len out.new ≡ vec_len out.old + 16 }
-    ensures capacity { vec_capacity out.old ≤ vec_capacity out.new }
-{
-    let Ok(()) = out.extend_from_slice(digits) else {
-        unreachable!()
-    };
-}
-
 // Writes bytes in hexadecimal, eight at a time, as far as there are eight of them, and answers the
 // bytes that are left. There is room for the digits of all.
 #[inline(always)]
@@ -182,7 +143,9 @@ pub(crate) fn push_eights<'a>(out: &mut Vec<u8>, bytes: &'a [u8]) -> &'a [u8]
 {
     let mut rest = bytes;
     while rest.len() >= BYTES_AT_ONCE {
-        push_sixteen(out, &digits_of_eight(rest));
+        let Ok(()) = out.extend_from_slice(&digits_of_eight(rest)) else {
+            unreachable!()
+        };
         rest = &rest[BYTES_AT_ONCE..];
     }
     rest

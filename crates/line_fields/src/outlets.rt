@@ -70,16 +70,6 @@ fn add<K: Sink>(sink: &mut K, text: &mut Vec<u8>, bytes: &[u8]) -> Result<(), De
     Ok(())
 }
 
-// Writes a comma after a text.
-#[inline(always)]
-fn add_comma<K: Sink>(sink: &mut K, text: &mut Vec<u8>) -> Result<(), DeviceFault>
-    ensures { Outputs result (K.taken sink.old) (K.taken sink.new)
-        (K.faults sink.old) (K.faults sink.new)
-        text.new.items (text.old.items ++ 44 ∷ []) }
-{
-    add(sink, text, b",")
-}
-
 // Writes a comma and a word after a text.
 #[inline(always)]
 fn add_word<K: Sink>(sink: &mut K, text: &mut Vec<u8>, word: &[u8]) -> Result<(), DeviceFault>
@@ -87,7 +77,7 @@ fn add_word<K: Sink>(sink: &mut K, text: &mut Vec<u8>, word: &[u8]) -> Result<()
         (K.faults sink.old) (K.faults sink.new)
         text.new.items (text.old.items ++ 44 ∷ word.now) }
 {
-    add_comma(sink, text)?;
+    add(sink, text, b",")?;
     add(sink, text, word)
 }
 
@@ -142,29 +132,12 @@ fn add_bytes<K: Sink>(sink: &mut K, text: &mut Vec<u8>, bytes: &[u8]) -> Result<
         (K.faults sink.old) (K.faults sink.new)
         text.new.items (text.old.items ++ 44 ∷ hex_text bytes.now) }
 {
-    add_comma(sink, text)?;
+    add(sink, text, b",")?;
     if !has_spare_room(text, 2 * bytes.len()) {
         return add_digits_far(sink, text, bytes);
     }
     let left = push_eights(text, bytes);
     push_hex(text, left);
-    Ok(())
-}
-
-// Writes a comma before each of some numbers and the number, after a text.
-#[inline(always)]
-fn add_numbers<K: Sink>(
-    sink: &mut K,
-    text: &mut Vec<u8>,
-    numbers: &[u64],
-) -> Result<(), DeviceFault>
-    ensures { Outputs result (K.taken sink.old) (K.taken sink.new)
-        (K.faults sink.old) (K.faults sink.new)
-        text.new.items (text.old.items ++ flat_map (λ n. 44 ∷ decimal n) numbers.now) }
-{
-    for i in 0..numbers.len() {
-        add_number(sink, text, numbers[i])?;
-    }
     Ok(())
 }
 
@@ -219,7 +192,7 @@ fn push_numbers(text: &mut Vec<u8>, numbers: &[u64])
     }
 }
 
-// Begins a record with its name and some numbers, and asks for the room of each by itself.
+// Writes a name, some numbers and what stands behind them, and asks for the room of each by itself.
 #[cold]
 #[inline(never)]
 fn begin_far<K: Sink>(
@@ -227,13 +200,18 @@ fn begin_far<K: Sink>(
     text: &mut Vec<u8>,
     name: &[u8],
     numbers: &[u64],
+    end: &[u8],
 ) -> Result<(), DeviceFault>
     ensures { Outputs result (K.taken sink.old) (K.taken sink.new)
         (K.faults sink.old) (K.faults sink.new)
-        text.new.items (text.old.items ++ join_with_byte 44 (name.now ∷ map decimal numbers.now)) }
+        text.new.items (text.old.items
+        ++ (join_with_byte 44 (name.now ∷ map decimal numbers.now) ++ end.now)) }
 {
     add(sink, text, name)?;
-    add_numbers(sink, text, numbers)
+    for i in 0..numbers.len() {
+        add_number(sink, text, numbers[i])?;
+    }
+    add(sink, text, end)
 }
 
 // Whether a text has room for a name and some numbers, and for one byte more. It asks that neither
@@ -265,7 +243,7 @@ pub fn begin_record<K: Sink>(
         writer.new (writer.old ++ join_with_byte 44 (name.now ∷ map decimal numbers.now)) }
 {
     if !has_room_for_all(&writer.text, name, numbers) {
-        return begin_far(sink, &mut writer.text, name, numbers);
+        return begin_far(sink, &mut writer.text, name, numbers, b"");
     }
     push_word(&mut writer.text, name);
     push_numbers(&mut writer.text, numbers);
@@ -300,23 +278,6 @@ pub fn close_record<K: Sink>(sink: &mut K, writer: &mut RecordWriter) -> Result<
     add(sink, &mut writer.text, b"\n")
 }
 
-// Writes a record of a name and some numbers, and asks for the room of each by itself.
-#[cold]
-#[inline(never)]
-fn put_numbers_far<K: Sink>(
-    sink: &mut K,
-    text: &mut Vec<u8>,
-    name: &[u8],
-    numbers: &[u64],
-) -> Result<(), DeviceFault>
-    ensures { Outputs result (K.taken sink.old) (K.taken sink.new)
-        (K.faults sink.old) (K.faults sink.new)
-        text.new.items (text.old.items ++ record_text (name.now ∷ map decimal numbers.now)) }
-{
-    begin_far(sink, text, name, numbers)?;
-    add(sink, text, b"\n")
-}
-
 /// Writes a record of a name and some numbers after what a writer holds, as `begin_record` does.
 ///
 /// It is put into its caller, where the name is known and how many numbers there are, so that it is
@@ -333,7 +294,7 @@ pub fn put_numbers<K: Sink>(
         writer.new (writer.old ++ record_text (name.now ∷ map decimal numbers.now)) }
 {
     if !has_room_for_all(&writer.text, name, numbers) {
-        return put_numbers_far(sink, &mut writer.text, name, numbers);
+        return begin_far(sink, &mut writer.text, name, numbers, b"\n");
     }
     push_word(&mut writer.text, name);
     push_numbers(&mut writer.text, numbers);
@@ -361,22 +322,6 @@ pub fn put_ending<K: Sink>(
     close_record(sink, writer)
 }
 
-// Writes a comma before each of some fields and the field, after what a writer holds.
-fn add_fields<K: Sink>(
-    sink: &mut K,
-    writer: &mut RecordWriter,
-    fields: &[Field<'_>],
-) -> Result<(), DeviceFault>
-    ensures { Outputs result (K.taken sink.old) (K.taken sink.new)
-        (K.faults sink.old) (K.faults sink.new)
-        writer.new (writer.old ++ flat_map (λ field. 44 ∷ field_text field) fields.now) }
-{
-    for i in 0..fields.len() {
-        add_field(sink, writer, fields[i])?;
-    }
-    Ok(())
-}
-
 /// Writes a record of a name and some fields after what a writer holds, as `begin_record` does.
 pub fn put_fields<K: Sink>(
     sink: &mut K,
@@ -389,6 +334,8 @@ pub fn put_fields<K: Sink>(
         writer.new (writer.old ++ record_text (name.now ∷ map field_text fields.now)) }
 {
     begin_record(sink, writer, name, &[])?;
-    add_fields(sink, writer, fields)?;
+    for i in 0..fields.len() {
+        add_field(sink, writer, fields[i])?;
+    }
     close_record(sink, writer)
 }

@@ -4,12 +4,10 @@ ghost use Rattle.std.specs.Prelude.{◌≡◌, ◌==◌, ◌+◌, ◌≤◌, ◌
 ghost use Rattle.std.specs.Prelude.{IsTrue, MatchBool, OnErr, if◌then◌else◌, length};
 ghost use Rattle.std.specs.Prelude.{slice_index_or, take};
 ghost use Rattle.csv.specs.Records.{fields_of};
-ghost use Rattle.line_fields.specs.Bytes.{begins_with_feed, is_input_text, is_line_text};
+ghost use Rattle.line_fields.specs.Bytes.{is_input_text, is_line_text};
 ghost use Rattle.line_fields.specs.Records.{field, parts, records_of_text};
 ghost use Rattle.line_fields.specs.Rows.{IsLineEnd, IsReading, IsReadingOn, IsFieldWithin};
-ghost use Rattle.line_fields.specs.Rows.{begin_at};
-ghost use Rattle.line_fields.specs.Rows.{begins_with_return, fields_in, rows_left};
-ghost use Rattle.line_fields.specs.Rows.{rows_left_in, spans_from};
+ghost use Rattle.line_fields.specs.Rows.{begin_at, fields_in, rows_left, rows_left_in, spans_from};
 
 use crate::bytes::is_plain_line;
 use crate::splits::split;
@@ -197,7 +195,8 @@ impl<'a> FieldRow<'a> {
     }
 
     // Puts the next record of a reader of `csv` in place of the fields of the row, or none after
-    // the last one and where it is refused.
+    // the last one and where it is refused. An error of `csv` on a plain text, over memory, is
+    // answered as out of memory.
     #[tactic(auto, unfolding(crate::specs::Rows::spans_from))]
     fn read_record(&mut self, reader: &mut Reader<&[u8]>) -> Result<bool, AllocError>
         requires { IsReading reader.old }
@@ -216,48 +215,12 @@ impl<'a> FieldRow<'a> {
                 self.clear();
                 Ok(false)
             }
-            Err(error) => {
+            Err(_) => {
                 self.clear();
-                Err(let_go(error))
+                Err(AllocError)
             }
         }
     }
-}
-
-// A text without the line feeds that it begins with.
-fn without_feeds(text: &[u8]) -> &[u8]
-    requires { is_input_text text.now ≡ true }
-    ensures input { is_input_text result.now ≡ true }
-    ensures same { records_of_text result.now ≡ records_of_text text.now }
-    ensures begins { begins_with_feed result.now ≡ false }
-{
-    let mut rest = text;
-    while let [first, others @ ..] = rest {
-        if *first != b'\n' {
-            return rest;
-        }
-        rest = others;
-    }
-    rest
-}
-
-// Whether a text begins with a carriage return.
-fn begins_with_return(text: &[u8]) -> bool
-    ensures { result ≡ begins_with_return text.now }
-{
-    !text.is_empty() && text[0] == b'\r'
-}
-
-// A reader of `csv` over a text: no header row, and records of any lengths.
-fn reader_over(alloc: Global, text: &[u8]) -> Reader<&[u8]>
-    requires { IsTrue (is_input_text text.now) }
-    ensures reading { IsReading result }
-    ensures rows { rows_left result ≡ records_of_text text.entry.now }
-{
-    ReaderBuilder::new()
-        .has_headers(false)
-        .flexible(true)
-        .from_reader(alloc, text)
 }
 
 // The next record of a reader of `csv`.
@@ -272,8 +235,9 @@ fn read(reader: &mut Reader<&[u8]>, row: &mut ByteRecord) -> Result<bool, Error>
     reader.read_byte_record(row)
 }
 
-// Lets `csv` read the rest of a text. It stands apart, and runs once for a text: what calls it has
-// no room of a reader's size among its own variables.
+// Lets `csv` read the rest of a text: no header row, and records of any lengths. It stands
+// apart, and runs once for a text: what calls it has no room of a reader's size among its own
+// variables.
 #[cold]
 #[inline(never)]
 fn hand_over<'a>(alloc: Global, rest: &'a [u8]) -> Result<Box<Reader<&'a [u8]>>, AllocError>
@@ -282,13 +246,12 @@ fn hand_over<'a>(alloc: Global, rest: &'a [u8]) -> Result<Box<Reader<&'a [u8]>>,
     ensures rows { IfOk result
         (λ reader. rows_left reader.value ≡ records_of_text rest.entry.now) }
 {
-    let reader = Box::new(alloc, reader_over(alloc, rest)).map_err(AllocError::from)?;
+    let reader = ReaderBuilder::new()
+        .has_headers(false)
+        .flexible(true)
+        .from_reader(alloc, rest);
+    let reader = Box::new(alloc, reader).map_err(AllocError::from)?;
     Ok(reader)
-}
-
-// An error of `csv` on a plain text, over memory, is answered as out of memory.
-fn let_go(_error: Error) -> AllocError {
-    AllocError
 }
 
 // The next record of what `csv` reads, or the end, after which nothing is left to it.
@@ -351,13 +314,16 @@ impl<'a> RecordReader<'a> {
         if self.reader.is_some() {
             return read_or_close(&mut self.reader, row);
         }
-        let rest = without_feeds(self.rest);
+        let mut rest = self.rest;
+        while !rest.is_empty() && rest[0] == b'\n' {
+            rest = &rest[1..];
+        }
         self.rest = b"";
         if rest.is_empty() {
             row.clear();
             return Ok(false);
         }
-        if begins_with_return(rest) {
+        if rest[0] == b'\r' {
             row.clear();
             let reader = hand_over(self.alloc, rest)?;
             self.reader = Some(reader);

@@ -1,7 +1,6 @@
 //! Where the first line of a text and its fields end.
 
-ghost use Rattle.std.specs.Prelude.{◌≡◌, ◌+◌, ◌≤◌, All, IfOk, length, map, take};
-ghost use Rattle.std.specs.Simd.Lanes.{chunk, mask_l};
+ghost use Rattle.std.specs.Prelude.{◌≡◌, All, IfOk, take};
 ghost use Rattle.line_fields.specs.Records.{parts};
 ghost use Rattle.line_fields.specs.Rows.{IsLineEnd, IsFieldWithin, fields_in, is_mark, spans_from};
 
@@ -14,17 +13,6 @@ fn is_mark(byte: u8) -> bool
     ensures { result ≡ is_mark byte }
 {
     byte == b',' || byte == b'\n' || byte == b'\r'
-}
-
-// Which of sixteen bytes end a field, the first as the lowest bit.
-fn marks_of_sixteen(text: &[u8], at: usize) -> u64
-    requires { at + 16 ≤ length text.now }
-    ensures { result ≡ mask_l (map is_mark (chunk at 16 text.now)) }
-{
-    let bytes = u8x16::from_slice(&text[at..]);
-    (bytes.simd_eq(u8x16::splat(b','))
-        | bytes.simd_eq(u8x16::splat(b'\n'))
-        | bytes.simd_eq(u8x16::splat(b'\r'))).to_bitmask()
 }
 
 // Where the fields of the first line of a text end, and where that line does.
@@ -41,7 +29,10 @@ pub(crate) fn split(text: &[u8], ends: &mut Vec<usize>) -> Result<usize, AllocEr
     ends.clear();
     let mut at = 0;
     while text.len() - at >= 16 {
-        let mut marks = marks_of_sixteen(text, at);
+        let bytes = u8x16::from_slice(&text[at..]);
+        let mut marks = (bytes.simd_eq(u8x16::splat(b','))
+            | bytes.simd_eq(u8x16::splat(b'\n'))
+            | bytes.simd_eq(u8x16::splat(b'\r'))).to_bitmask();
         let mut next = at;
         while marks != 0 {
             let before = marks.trailing_zeros();

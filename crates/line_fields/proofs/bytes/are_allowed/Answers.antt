@@ -1,4 +1,4 @@
-use Rattle.std.proofs.Common.{◌≡◌, ◌-◌, ◌&&◌, ◌∙◌, ℕ, ap, arith, drop, length, sym}
+use Rattle.std.proofs.Common.{◌≡◌, ◌-◌, ◌&&◌, ◌∙◌, ℕ, ap, arith, drop, length, refl, sym}
 use Rattle.std.proofs.lemmas.Bool.{eqb-false}
 use Rattle.line_fields.specs.Bytes.{is_input_text}
 use Rattle.line_fields.proofs.TextLemmas.{empty_is_plain, plain_last, plain_more}
@@ -9,8 +9,8 @@ returns-then-is_empty c = sym (empty_is_plain c.args.text.now (sym c.is_empty.en
 
 pub loop-i-preserved : goal.loop-i-preserved
 loop-i-preserved c =
-    plain_more c.args.text.now c.loop-i.i c.loop-i.allowed c.is_allowed_before-allowed.result (omega arith) c.loop-i.invariant
-    c.is_allowed_before-allowed.ensures
+    plain_more c.args.text.now c.loop-i.i c.loop-i.allowed _ (omega arith) c.loop-i.invariant
+    (λ rest. rw c.is_common.ensures refl)
 
 pub returns : goal.returns
 returns c =
@@ -19,4 +19,4 @@ returns c =
     let at : c.loop-i.i ≡ length xs - 1 = omega (arith, some) in
     sym
     (c.loop-i.invariant ∙ ap (λ (i : ℕ). c.loop-i.allowed && is_input_text (drop i xs)) at
-    ∙ plain_last xs (length xs - 1) c.loop-i.allowed c.is_common.result (omega (arith, some)) c.is_common.ensures)
+    ∙ plain_last xs (length xs - 1) c.loop-i.allowed c.is_common-2.result (omega (arith, some)) c.is_common-2.ensures)

@@ -10,6 +10,6 @@ loop-rest-preserved c =
     let more = spelled_more c.loop-rest.out.items xs 8 in
     let shorter : length (take (length xs - 8) (drop 8 xs)) ≡ length xs - 8 = ap length (rest_is xs 8) ∙ length-drop 8 xs in
     record {
-      same = rw (c.push_sixteen.ensures.text, c.digits_of_eight.ensures) (more ∙ c.loop-rest.invariant.same);
-      room = omega (arith, shorter, c.loop-rest-test.true, c.push_sixteen.ensures.len, c.push_sixteen.ensures.capacity, c.loop-rest.invariant.room);
+      same = rw (c.in-Ok.ensures.items, c.digits_of_eight.ensures) (more ∙ c.loop-rest.invariant.same);
+      room = omega (arith, shorter, c.loop-rest-test.true, c.in-Ok.ensures.len, c.in-Ok.ensures.capacity, c.loop-rest.invariant.room);
     }

@@ -1,6 +1,9 @@
-use Rattle.std.proofs.Common.{◌+◌, ◌<◌, ◌∙◌, arith, sym}
+use Rattle.std.proofs.Common.{◌+◌, ◌<◌, ◌≤◌, ◌∙◌, arith, length, sym}
+use Rattle.std.proofs.lemmas.Simd.{length-chunk}
 use lib.Count.{count_trailing_zeros}
+use lib.Lanes.{chunk}
 use Rattle.line_fields.proofs.EndLemmas.{parted_at_comma, parted_begins, parted_ends, parted_line, parted_within}
+use Rattle.line_fields.proofs.MarkLemmas.{marks_are}
 use Rattle.line_fields.proofs.SplitLemmas.{other_mark, parted_passes, under_begins, under_ends, under_first, under_mark, under_more}
 use Rattle.line_fields.proofs.splits.split.Goals as goal
 use Rattle.line_fields.proofs.splits.split.Goals.{then-is_mark+in_ok-push-2+else-text-at-ne44, else-is_mark}
@@ -10,8 +13,11 @@ loop-at-init c = rw c.clear.ensures.items (parted_begins c.args.text.now)
 
 pub loop-marks-init : goal.loop-marks-init
 loop-marks-init c =
-    under_begins c.args.text.now c.loop-at.ends.items c.loop-at.at c.marks_of_sixteen-marks.result c.loop-at.invariant
-    (omega (arith, c.loop-at-test.true, c.loop-at.invariant.inside)) c.marks_of_sixteen-marks.ensures
+    let text = c.args.text.now in
+    let at = c.loop-at.at in
+    let room : at + 16 ≤ length text = omega (arith, c.loop-at-test.true, c.loop-at.invariant.inside) in
+    under_begins text c.loop-at.ends.items at _ c.loop-at.invariant room
+    (marks_are (chunk at 16 text) 16 (length-chunk at 16 text room) (omega arith))
 
 pub bounds-text-mark : goal.bounds-text-mark
 bounds-text-mark c =
