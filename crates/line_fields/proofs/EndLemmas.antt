@@ -65,7 +65,7 @@ unfolding begins
 begins_line ends zero = refl
 begins_line ends (suc place) = refl
 
-pub begin_further : (ends : List ℕ) (place : ℕ) → 0 < place → begin_at ends place ≡ get_or ends (place - 1) 0 + 1
+begin_further : (ends : List ℕ) (place : ℕ) → 0 < place → begin_at ends place ≡ get_or ends (place - 1) 0 + 1
 begin_further ends zero some = absurd (omega (arith, some))
 begin_further ends (suc place) some = ap (λ (n : ℕ). get_or ends n 0 + 1) (omega arith)
 
@@ -92,11 +92,13 @@ span_within bytes ends place all lt =
     subst (IsFieldWithin bytes) (span_at 0 ends place (span_of 0 0) lt ∙ ap (λ (n : ℕ). span_of n (get_or ends place 0)) (begins_line ends place))
     (all place (span_of 0 0) (omega (arith, long, lt)))
 
-pub begin_ordered : (bytes ends : List ℕ) (place : ℕ) → All (IsFieldWithin bytes) (spans_from 0 ends) → place < length ends → begin_at ends place ≤ get_or ends place 0
-begin_ordered bytes ends place all lt = (span_within bytes ends place all lt).ordered
+pub within_line : (bytes items ends : List ℕ) (place : ℕ) → ends ≡ items → All (IsFieldWithin bytes) (spans_from 0 items) → place < length ends → IsFieldWithin bytes (span_of (begin_at ends place) (get_or ends place 0))
+within_line bytes items ends place same all lt = span_within bytes ends place (subst (λ (es : List ℕ). All (IsFieldWithin bytes) (spans_from 0 es)) (sym same) all) lt
 
-pub end_within : (bytes ends : List ℕ) (place : ℕ) → All (IsFieldWithin bytes) (spans_from 0 ends) → place < length ends → get_or ends place 0 ≤ length bytes
-end_within bytes ends place all lt = (span_within bytes ends place all lt).within
+pub within_further : (bytes items ends : List ℕ) (place : ℕ) → ends ≡ items → All (IsFieldWithin bytes) (spans_from 0 items) → place < length ends → 0 < place
+    → IsFieldWithin bytes (span_of (get_or ends (place - 1) 0 + 1) (get_or ends place 0))
+within_further bytes items ends place same all lt some =
+    subst (λ (n : ℕ). IsFieldWithin bytes (span_of n (get_or ends place 0))) (begin_further ends place some) (within_line bytes items ends place same all lt)
 
 -- the field at a place, and past the last one
 from_place : (bytes : List ℕ) (start : ℕ) (ends : List ℕ) (place : ℕ) → place < length ends
@@ -108,7 +110,7 @@ from_place bytes start (first ∷ ends) (suc place) lt =
     from_place bytes (first + 1) ends place (omega (arith, lt))
     ∙ ap (λ (n : ℕ). part_of bytes (span_of n (get_or ends place 0))) (begins_more start first ends place)
 
-pub field_there : (bytes ends : List ℕ) (place : ℕ) → place < length ends → field (fields_in bytes ends) place ≡ part_of bytes (span_of (begin_at ends place) (get_or ends place 0))
+field_there : (bytes ends : List ℕ) (place : ℕ) → place < length ends → field (fields_in bytes ends) place ≡ part_of bytes (span_of (begin_at ends place) (get_or ends place 0))
 field_there bytes ends place lt = from_place bytes 0 ends place lt ∙ ap (λ (n : ℕ). part_of bytes (span_of n (get_or ends place 0))) (begins_line ends place)
 
 past_last : (bytes : List ℕ) (start : ℕ) (ends : List ℕ) (place : ℕ) → length ends ≤ place → field (map (part_of bytes) (spans_from start ends)) place ≡ []
@@ -128,3 +130,17 @@ held_of_line bytes (end ∷ ends) held some = length-fields_in bytes (end ∷ en
 pub held_past : (bytes ends : List ℕ) (held : Record) (place : ℕ) → (length ends == 0) ≡ false → length ends ≤ place → field (fields_held bytes ends held) place ≡ []
 held_past bytes [] held place some le = cc some
 held_past bytes (end ∷ ends) held place some le = no_field bytes (end ∷ ends) place le
+
+-- the field at a place of a line
+held_there : (bytes ends : List ℕ) (held : Record) (place : ℕ) → place < length ends → field (fields_held bytes ends held) place ≡ part_of bytes (span_of (begin_at ends place) (get_or ends place 0))
+held_there bytes [] held place lt = absurd (omega (arith, lt))
+held_there bytes (end ∷ ends) held place lt = field_there bytes (end ∷ ends) place lt
+
+pub held_first : (bytes ends : List ℕ) (held : Record) (place : ℕ) → place < length ends → place ≡ 0 → field (fields_held bytes ends held) place ≡ take (get_or ends place 0) bytes
+held_first bytes ends held place lt first =
+    let all : get_or ends place 0 - 0 ≡ get_or ends place 0 = omega arith in
+    held_there bytes ends held place lt ∙ ap (λ (n : ℕ). part_of bytes (span_of (begin_at ends n) (get_or ends place 0))) first ∙ ap (λ (n : ℕ). take n bytes) all
+
+pub held_further : (bytes ends : List ℕ) (held : Record) (place : ℕ) → place < length ends → 0 < place
+    → field (fields_held bytes ends held) place ≡ part_of bytes (span_of (get_or ends (place - 1) 0 + 1) (get_or ends place 0))
+held_further bytes ends held place lt some = held_there bytes ends held place lt ∙ ap (λ (n : ℕ). part_of bytes (span_of n (get_or ends place 0))) (begin_further ends place some)

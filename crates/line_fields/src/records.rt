@@ -1,13 +1,12 @@
 //! The records of an input text, one at a time. From the first carriage return on `csv` reads it.
 
-ghost use Rattle.std.specs.Prelude.{◌≡◌, ◌==◌, ◌+◌, ◌≤◌, ◌<◌, ◌∷◌, [], true, false, All, IfOk};
-ghost use Rattle.std.specs.Prelude.{IsTrue, MatchBool, OnErr, if◌then◌else◌, length};
-ghost use Rattle.std.specs.Prelude.{slice_index_or, take};
+ghost use Rattle.std.specs.Prelude.{◌≡◌, ◌==◌, ◌+◌, ◌≤◌, ◌∷◌, [], true, false, All, IfOk, IsTrue};
+ghost use Rattle.std.specs.Prelude.{MatchBool, OnErr, if◌then◌else◌, length, take};
 ghost use Rattle.csv.specs.Records.{fields_of};
 ghost use Rattle.line_fields.specs.Bytes.{is_input_text, is_line_text};
 ghost use Rattle.line_fields.specs.Records.{field, parts, records_of_text};
 ghost use Rattle.line_fields.specs.Rows.{IsLineEnd, IsReading, IsReadingOn, IsFieldWithin};
-ghost use Rattle.line_fields.specs.Rows.{begin_at, fields_in, rows_left, rows_left_in, spans_from};
+ghost use Rattle.line_fields.specs.Rows.{rows_left, rows_left_in, spans_from};
 
 use crate::bytes::is_plain_line;
 use crate::splits::split;
@@ -35,31 +34,6 @@ impl<'a> Model for FieldRow<'a> {
     ghost view = { λ s. fields_held s.line.now s.ends.items (fields_of s.record) };
 
     ghost invariant = { λ s. All (IsFieldWithin s.line.now) (spans_from 0 s.ends.items) };
-}
-
-// Where the field at a place of a line begins: after the end of the one before it.
-#[inline(always)]
-fn begin_of(ends: &[usize], place: usize) -> usize
-    requires some { place < length ends.now }
-    requires ordered { begin_at ends.now place ≤ slice_index_or ends.now place 0 }
-    ensures value { result ≡ begin_at ends.now place }
-    ensures ordered { result ≤ slice_index_or ends.now place 0 }
-{
-    if place == 0 {
-        return 0;
-    }
-    ends[place - 1] + 1
-}
-
-// The field at a place of a line, whose fields end there.
-#[inline(always)]
-#[tactic(auto, using(crate::proofs::EndLemmas::end_within, crate::proofs::EndLemmas::field_there))]
-fn field_in<'a>(bytes: &'a [u8], ends: &[usize], place: usize) -> &'a [u8]
-    requires within { All (IsFieldWithin bytes.now) (spans_from 0 ends.now) }
-    requires some { place < length ends.now }
-    ensures { result.now ≡ field (fields_in bytes.now ends.now) place }
-{
-    &bytes[begin_of(ends, place)..ends[place]]
 }
 
 // The field at a place of a record of `csv`, or an empty one past the last.
@@ -108,13 +82,18 @@ impl<'a> FieldRow<'a> {
 
     /// The field at a place, counted from 0, or an empty one past the last.
     #[inline(always)]
+    #[tactic(auto, using(crate::proofs::EndLemmas::within_further))]
     pub fn field(&self, place: usize) -> &[u8]
         ensures { result.now ≡ field self.now place }
     {
-        if place < self.ends.len() {
-            return field_in(self.line, self.ends.as_slice(), place);
+        let ends = self.ends.as_slice();
+        if place < ends.len() {
+            if place == 0 {
+                return &self.line[..ends[place]];
+            }
+            return &self.line[ends[place - 1] + 1..ends[place]];
         }
-        if self.ends.is_empty() {
+        if ends.is_empty() {
             return field_of(&self.record, place);
         }
         b""
