@@ -3,9 +3,9 @@ use Rattle.std.proofs.Common.{◌≡◌, ◌≢◌, get_or, ne_eqb, eqb-true, ar
 use Rattle.std.specs.Global.{Box}
 use Rattle.std.specs.Prelude.{Err, IfOk, MatchBool, Ok, OnErr, Result, is_some}
 use Rattle.csv.specs.declared.reader.Reader.{Reader}
-use Rattle.line_fields.specs.Bytes.{begins_with_feed, is_input_text}
+use Rattle.line_fields.specs.Bytes.{is_input_text}
 use Rattle.line_fields.specs.Records.{Record, has_byte, records_of_text}
-use Rattle.line_fields.specs.Rows.{IsLeft, IsReadingOn, begins_with_end, begins_with_return, records_left, rows_left_in}
+use Rattle.line_fields.specs.Rows.{IsLeft, IsReadingOn, begins_with_end, records_left, rows_left_in}
 use Rattle.line_fields.proofs.TextLemmas.{empty_is_input, records_of_nothing}
 
 -- where nothing stands apart, what is left is what `csv` has left
@@ -52,18 +52,10 @@ byte_first [] some = cc some
 byte_first (byte ∷ rest) some = refl
 
 -- it begins with no end of a line where it begins with neither of the two
-pub no_feed_first : (text : List ℕ) → get_or text 0 0 ≢ 10 → begins_with_feed text ≡ false
-no_feed_first [] other = refl
-no_feed_first (byte ∷ rest) other = ne_eqb byte 10 other
-
-pub no_return_first : (text : List ℕ) → get_or text 0 0 ≢ 13 → begins_with_return text ≡ false
-no_return_first [] other = refl
-no_return_first (byte ∷ rest) other = ne_eqb byte 13 other
-
 pub nothing_there : (text : List ℕ) → (length text == 0) ≡ true → text ≡ []
 nothing_there [] none = refl
 nothing_there (byte ∷ rest) none = let at = eqb-true (length (byte ∷ rest)) 0 none in absurd (omega (arith, at))
 
-pub no_end_first : (text : List ℕ) → begins_with_feed text ≡ false → begins_with_return text ≡ false → begins_with_end text ≡ false
+pub no_end_first : (text : List ℕ) → get_or text 0 0 ≢ 10 → get_or text 0 0 ≢ 13 → begins_with_end text ≡ false
 no_end_first [] feed return = refl
-no_end_first (byte ∷ rest) feed return = rw (feed, return) refl
+no_end_first (byte ∷ rest) feed return = rw (ne_eqb byte 10 feed, ne_eqb byte 13 return) refl

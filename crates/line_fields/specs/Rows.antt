@@ -62,11 +62,6 @@ abbrev pub begins_with_end : List ℕ → Bool
 begins_with_end [] = false
 begins_with_end (byte ∷ rest) = is_end byte
 
--- a carriage return comes first
-abbrev pub begins_with_return : List ℕ → Bool
-begins_with_return [] = false
-begins_with_return (byte ∷ rest) = byte == 13
-
 -- no byte of a list ends a line
 abbrev pub has_no_end : List ℕ → Bool
 has_no_end bytes = list_all (λ byte. not (is_end byte)) bytes

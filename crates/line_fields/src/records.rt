@@ -1,12 +1,12 @@
 //! The records of an input text, one at a time. From the first carriage return on `csv` reads it.
 
-ghost use Rattle.std.specs.Prelude.{◌≡◌, ◌==◌, ◌+◌, ◌≤◌, ◌∷◌, [], true, false, All, IfOk, IsTrue};
-ghost use Rattle.std.specs.Prelude.{MatchBool, OnErr, if◌then◌else◌, length, take};
+ghost use Rattle.std.specs.Prelude.{◌≡◌, ◌==◌, ◌+◌, ◌≤◌, ◌∷◌, [], IfOk, IsTrue, MatchBool};
+ghost use Rattle.std.specs.Prelude.{OnErr, if◌then◌else◌, length, take};
 ghost use Rattle.csv.specs.Records.{fields_of};
 ghost use Rattle.line_fields.specs.Bytes.{is_input_text, is_line_text};
 ghost use Rattle.line_fields.specs.Records.{field, parts, records_of_text};
-ghost use Rattle.line_fields.specs.Rows.{IsLineEnd, IsReading, IsReadingOn, IsFieldWithin};
-ghost use Rattle.line_fields.specs.Rows.{rows_left, rows_left_in, spans_from};
+ghost use Rattle.line_fields.specs.Rows.{IsLineEnd, IsReading, IsReadingOn};
+ghost use Rattle.line_fields.specs.Rows.{rows_left, rows_left_in};
 
 use crate::bytes::is_plain_line;
 use crate::splits::split;

@@ -1,4 +1,4 @@
-use Rattle.std.proofs.Common.{◌≡◌, ◌∙◌, List, ℕ, ap, arith, sym}
+use Rattle.std.proofs.Common.{◌∙◌, List, ℕ, ap, arith, sym}
 use Rattle.std.proofs.lemmas.List.{length-take-le}
 use Rattle.csv.specs.Records.{fields_of}
 use Rattle.line_fields.specs.Records.{Record, field}

@@ -1,9 +1,8 @@
-use Rattle.std.proofs.Common.{◌≡◌, [], ◌∷◌, List, drop, false, true, ◌∙◌, ap, arith, length, refl, rules, sym}
+use Rattle.std.proofs.Common.{◌≡◌, ◌≢◌, [], ◌∷◌, List, drop, false, get_or, true, ◌∙◌, ap, arith, length, refl, rules, sym}
 use Rattle.std.specs.Prelude.{is_some}
 use Rattle.std.proofs.lemmas.Bool.{eqb-false}
 use Rattle.line_fields.specs.Records.{Record, has_byte, records_of_text}
-use Rattle.line_fields.specs.Bytes.{begins_with_feed}
-use Rattle.line_fields.proofs.LeftLemmas.{byte_first, is_left, is_left_in_lines, left_in_lines, left_to_csv, no_end_first, no_feed_first, no_return_first, nothing_there, on_any_err, rest_is_none, told, told_refused}
+use Rattle.line_fields.proofs.LeftLemmas.{byte_first, is_left, is_left_in_lines, left_in_lines, left_to_csv, no_end_first, nothing_there, on_any_err, rest_is_none, told, told_refused}
 use Rattle.line_fields.proofs.SpanLemmas.{feed_taken, first_record, input_behind}
 use Rattle.line_fields.proofs.TextLemmas.{empty_is_input, records_of_nothing, rest_is}
 use Rattle.line_fields.proofs.records.RecordReader.next_row.Goals as goal
@@ -88,11 +87,11 @@ pub returns-clause-ok : goal.returns-clause-ok
 returns-clause-ok c =
     let off : is_some c.self.inside.reader ≡ false = sym c.is_some.ensures ∙ c.if-is_some.false in
     let some : has_byte c.loop-rest.rest.now ≡ true = byte_first c.loop-rest.rest.now (sym c.is_empty-2.ensures ∙ c.if-is_empty.false) in
-    let no_feed : begins_with_feed c.loop-rest.rest.now ≡ false = elim c.loop-rest-test.branch [
-      | then-loop-rest-test+else-rest-eq10 w ↦ no_feed_first c.loop-rest.rest.now w.if-rest-eq10.false
-      | else-loop-rest-test w ↦ ap begins_with_feed (nothing_there c.loop-rest.rest.now (sym c.is_empty.ensures ∙ w.loop-rest-test.false))
+    let no_feed : get_or c.loop-rest.rest.now 0 0 ≢ 10 = elim c.loop-rest-test.branch [
+      | then-loop-rest-test+else-rest-eq10 w ↦ w.if-rest-eq10.false
+      | else-loop-rest-test w ↦ cc (sym (sym c.is_empty-2.ensures ∙ c.if-is_empty.false) ∙ (sym c.is_empty.ensures ∙ w.loop-rest-test.false))
     ] in
-    let no_end = no_end_first c.loop-rest.rest.now no_feed (no_return_first c.loop-rest.rest.now c.if-rest-eq13.false) in
+    let no_end = no_end_first c.loop-rest.rest.now no_feed c.if-rest-eq13.false in
     sym c.self.view_is ∙ left_in_lines c.self.inside.reader c.self.inside.rest.now off ∙ sym c.loop-rest.invariant.same
     ∙ first_record c.loop-rest.rest.now c.in_ok-end.end c.in_ok-end.ensures.line c.loop-rest.invariant.input some no_end
     ∙ ap (λ (row : Record). row ∷ records_of_text (drop c.in_ok-end.end c.loop-rest.rest.now)) (sym c.in_ok-end.ensures.ok)
