@@ -51,11 +51,11 @@ pub byte_first : (text : List ℕ) → (length text == 0) ≡ false → has_byte
 byte_first [] some = cc some
 byte_first (byte ∷ rest) some = refl
 
--- it begins with no end of a line where it begins with neither of the two
 pub nothing_there : (text : List ℕ) → (length text == 0) ≡ true → text ≡ []
 nothing_there [] none = refl
 nothing_there (byte ∷ rest) none = let at = eqb-true (length (byte ∷ rest)) 0 none in absurd (omega (arith, at))
 
+-- it begins with no end of a line where it begins with neither of the two
 pub no_end_first : (text : List ℕ) → get_or text 0 0 ≢ 10 → get_or text 0 0 ≢ 13 → begins_with_end text ≡ false
 no_end_first [] feed return = refl
 no_end_first (byte ∷ rest) feed return = rw (ne_eqb byte 10 feed, ne_eqb byte 13 return) refl
