@@ -77,23 +77,17 @@ fn none_above(marks: &Marks, p: ProcId, last: u32) -> bool
     }
 }
 
-/// Whether a process, if it is barred, is barred at a check up to the last one.
-fn is_barred_within(marks: &Marks, p: ProcId, last: u32) -> bool
-    ensures { IsTrue result ↔ IfSome (bar_at marks.now p) (λ check. check ≤ last) }
-{
-    match marks.bar_of(p) {
-        Some(check) => check <= last,
-        None => true,
-    }
-}
-
 /// Whether the marks and the bar of a process are on checks up to the last one.
 fn are_within(marks: &Marks, p: ProcId, last: u32) -> bool
     requires { p < length marks.now.damaged }
     ensures { IsTrue result ↔ (All (λ check. check ≤ last) (damaged_at marks.now p)
         × IfSome (bar_at marks.now p) (λ check. check ≤ last)) }
 {
-    none_above(marks, p, last) && is_barred_within(marks, p, last)
+    none_above(marks, p, last)
+        && match marks.bar_of(p) {
+            Some(check) => check <= last,
+            None => true,
+        }
 }
 
 /// Whether each mark and each bar is on a check that its tape has. It looks at the latest mark and

@@ -1,14 +1,10 @@
 //! Which sends to look at.
-ghost use Rattle.std.specs.Prelude.{◌≡◌, ◌<◌, ◌≤◌, ◌++◌, ℕ, List, true, length, Contains, IfOk};
-ghost use Rattle.std.specs.Prelude.{OnOk};
-ghost use Rattle.line_names.specs.declared.messages.MsgName.{MsgName};
-ghost use Rattle.line_tape.specs.declared.events.Event.{Event};
+ghost use Rattle.std.specs.Prelude.{◌≡◌, ◌<◌, ◌≤◌, ℕ, true, length, IfOk};
 ghost use Rattle.line_tape.specs.Event.{sends};
 ghost use Rattle.line_tape.specs.History.{tape_at};
 ghost use Rattle.line_tape.specs.Line.{events_before, IsLine};
-ghost use Rattle.line_tape.specs.Transit.{names_received};
 ghost use Rattle.line_catalogue.specs.Left.{events_between, place_at, start_at, AreCandidates};
-ghost use Rattle.line_catalogue.specs.Left.{AreIn, AreStrangers};
+ghost use Rattle.line_catalogue.specs.Left.{AreStrangers};
 
 use crate::numbers::{Numbers, add_receipts, empty_rows};
 use line_names::{Choice, Line, ProcId, ProcSet};
@@ -42,32 +38,6 @@ fn are_none(ends: &[u32]) -> bool
     true
 }
 
-/// Adds the numbers of the messages that a process receives by these events of its tape, where they
-/// are below their ends; the events of a stranger are not walked.
-fn add_heard(
-    history: &History,
-    line: &Line,
-    q: ProcId,
-    events: &Events<'_>,
-    strangers: &ProcSet,
-    ends: &[u32],
-    rows: &mut Vec<Numbers>,
-) -> Result<(), AllocError>
-    requires among { (event : Event) → Contains events.now event
-        → Contains (tape_at history.now.processes q) event }
-    requires ends { (p : ℕ)
-        → start_at ends.now p ≤ sends (events_before history.now.processes line.now p) }
-    requires strangers { AreStrangers history.now.processes line.now strangers.now }
-    ensures count { length rows.new.items ≡ length rows.old.items }
-    ensures added { OnOk result ((names : List MsgName) → AreIn names ends.now rows.old.items
-        → AreIn (names ++ names_received events.now) ends.now rows.new.items) }
-{
-    if strangers.has(q) {
-        return Ok(());
-    }
-    add_receipts(events, ends, rows)
-}
-
 /// For each process the numbers of sends to look at among as many first ones as its end tells,
 /// beside those that were kept: of what is received after the line, but before the kept line. Where
 /// all ends are 0 there are none, and no event is walked, nor are those of strangers.
@@ -95,8 +65,10 @@ pub fn candidates(
     }
     for receiver in 0..n {
         let q = ProcId::try_new(receiver, n).unwrap();
-        let events = events_between(history, line, q, places[receiver as usize]);
-        add_heard(history, line, q, &events, strangers, ends, &mut rows)?;
+        if !strangers.has(q) {
+            let events = events_between(history, line, q, places[receiver as usize]);
+            add_receipts(&events, ends, &mut rows)?;
+        }
     }
     Ok(rows)
 }

@@ -285,39 +285,6 @@ impl Ledger {
         self.wait();
     }
 
-    /// Goes on from a line, with each send still to be looked at.
-    fn restart_anew(&mut self, line: &Line)
-        requires line { IsLine self.old.processes line.now }
-        requires further { HaveFurther self.old.processes line.now }
-        ensures processes { self.new.processes ≡ restarted_history self.old.processes line.now }
-        ensures rooms { (p : ℕ) → room_at self.old p ≤ room_at self.new p }
-    {
-        self.history.restart(line);
-        clear_starts(&mut self.starts);
-        clear_starts(&mut self.places);
-        self.left = Vec::new(self.alloc);
-        self.closed = true;
-        self.wait();
-    }
-
-    /// Goes on from a line, with what is in transit there and what is sent from now on to be looked
-    /// at.
-    fn restart_with(&mut self, line: &Line, left: Vec<MsgName>)
-        requires line { IsLine self.old.processes line.now }
-        requires consistent { IsConsistent self.old.processes line.now }
-        requires further { HaveFurther self.old.processes line.now }
-        requires left { left.items ≡ in_transit self.old.processes line.now }
-        ensures processes { self.new.processes ≡ restarted_history self.old.processes line.now }
-        ensures rooms { (p : ℕ) → room_at self.old p ≤ room_at self.new p }
-    {
-        move_starts(&self.history, line, &mut self.starts);
-        self.history.restart(line);
-        set_places(&self.history, &mut self.places);
-        self.left = left;
-        self.closed = true;
-        self.wait();
-    }
-
     /// Has each process go on from its choice of a consistent line. It takes no memory and cannot
     /// fail.
     ///
@@ -332,8 +299,22 @@ impl Ledger {
         ensures rooms { (p : ℕ) → room_at self.old p ≤ room_at self.new p }
     {
         match left {
-            Some(left) => self.restart_with(line, left),
-            None => self.restart_anew(line),
+            Some(left) => {
+                move_starts(&self.history, line, &mut self.starts);
+                self.history.restart(line);
+                set_places(&self.history, &mut self.places);
+                self.left = left;
+                self.closed = true;
+                self.wait();
+            }
+            None => {
+                self.history.restart(line);
+                clear_starts(&mut self.starts);
+                clear_starts(&mut self.places);
+                self.left = Vec::new(self.alloc);
+                self.closed = true;
+                self.wait();
+            }
         }
     }
 }

@@ -26,17 +26,6 @@ impl Model for Numbers {
     ghost view = { λ n. n.numbers.items };
 }
 
-/// Adds the numbers of messages.
-fn push_numbers(messages: &[MsgName], numbers: &mut Vec<u32>) -> Result<(), AllocError>
-    ensures { OnOk result (numbers.new.items ≡ numbers.old.items
-        ++ map (λ (message : MsgName). message.number) messages.now) }
-{
-    for message in messages {
-        numbers.push(message.number)?;
-    }
-    Ok(())
-}
-
 impl Numbers {
     /// No number, and room for so many.
     pub fn with_capacity(alloc: Global, room: usize) -> Result<Numbers, AllocError>
@@ -47,19 +36,24 @@ impl Numbers {
         })
     }
 
-    /// The numbers of messages, and those of a row.
+    /// The numbers of messages and those of a row, in order.
     pub fn of_both(
         messages: &[MsgName],
         row: &Numbers,
         alloc: Global,
     ) -> Result<Numbers, AllocError>
-        ensures { IfOk result (λ numbers. numbers
-            ≡ map (λ (message : MsgName). message.number) messages.now ++ row.now) }
+        ensures sorted { IfOk result (λ numbers. IsNonDecreasing numbers) }
+        ensures kept { IfOk result (λ numbers. (number : ℕ)
+            → Contains (map (λ (message : MsgName). message.number) messages.now ++ row.now) number
+            → Contains numbers number) }
     {
         let room = messages.len().saturating_add(row.numbers.len());
         let mut numbers = Vec::with_capacity(alloc, room)?;
-        push_numbers(messages, &mut numbers)?;
+        for message in messages {
+            numbers.push(message.number)?;
+        }
         numbers.extend_from_slice(row.numbers.as_slice())?;
+        numbers.sort_unstable();
         Ok(Numbers { numbers })
     }
 
@@ -83,14 +77,6 @@ impl Numbers {
     {
         self.numbers.push(number)?;
         Ok(())
-    }
-
-    /// Puts them in order.
-    pub fn sort(&mut self)
-        ensures sorted { IsNonDecreasing self.new }
-        ensures kept { (number : ℕ) → Contains self.old number → Contains self.new number }
-    {
-        self.numbers.sort_unstable();
     }
 }
 

@@ -51,17 +51,6 @@ impl Model for ProcessRows {
         (vec_capacity p.lanes - vec_len p.lanes) (length p.present) };
 }
 
-/// The name under which a vector notes a message.
-fn nearest(message: &MsgName) -> MsgName
-    ensures { result ≡ nearest message.now }
-{
-    MsgName {
-        from: message.from,
-        inc: message.inc,
-        number: message.number.min(LAST_NUMBER - 1),
-    }
-}
-
 /// Puts the vector of where a process stands after the others, unless it is the last of them
 /// already, in room that was made for it.
 fn lay(lanes: &mut Vec<u32>, present: &Reach, heard: bool)
@@ -179,20 +168,6 @@ fn place_rows(rows: &mut Vec<KeptRow>, tape: &Tape)
     }
 }
 
-/// Notes that a check is damaged.
-fn set_damaged(rows: &mut Vec<KeptRow>, check: u32)
-    requires { check < vec_len rows.old }
-    ensures rows { (n : ℕ) (lanes : List ℕ)
-        → map (row_of n lanes) rows.new.items
-        ≡ with_damage (map (row_of n lanes) rows.old.items) check }
-    ensures laid { (lanes : List ℕ) (heard : Bool) (present : List ℕ)
-        → AreLaid lanes rows.old.items heard present → AreLaid lanes rows.new.items heard present }
-    ensures room { (vec_capacity rows.new ≡ vec_capacity rows.old)
-        × (vec_len rows.new ≡ vec_len rows.old) }
-{
-    rows[check as usize].damaged = true;
-}
-
 /// For how many further rows with a vector each of `n` lanes there is room.
 fn count_room(rows: &Vec<KeptRow>, lanes: &Vec<u32>, n: usize) -> u32
     requires { 0 < n }
@@ -288,7 +263,7 @@ impl ProcessRows {
         Ok(())
     }
 
-    /// Notes a receipt.
+    /// Notes a receipt, under the name that a vector has for it.
     fn hear(&mut self, message: &MsgName)
         requires { message.now.from < length self.old.present }
         ensures rows { self.new.rows ≡ self.old.rows }
@@ -296,7 +271,12 @@ impl ProcessRows {
             ≡ lanes_with_message self.old.present (nearest message.now) }
         ensures room { self.new.room ≡ self.old.room }
     {
-        self.present.note(&nearest(message));
+        let name = MsgName {
+            from: message.from,
+            inc: message.inc,
+            number: message.number.min(LAST_NUMBER - 1),
+        };
+        self.present.note(&name);
         self.heard = true;
     }
 
@@ -373,7 +353,7 @@ impl ProcessRows {
         ensures present { self.new.present ≡ self.old.present }
         ensures room { self.new.room ≡ self.old.room }
     {
-        set_damaged(&mut self.rows, check);
+        self.rows[check as usize].damaged = true;
     }
 
     /// Goes on from a choice, on what is left of the tape. It takes no memory, and looks at the

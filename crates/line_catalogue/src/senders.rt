@@ -203,8 +203,7 @@ pub fn add_first(
     if row.is_empty() {
         return add_kept(history, line, p, end, kept, base, known, messages);
     }
-    let mut both = Numbers::of_both(kept, row, alloc)?;
-    both.sort();
+    let both = Numbers::of_both(kept, row, alloc)?;
     add_old(history, line, p, end, both.as_slice(), messages)
 }
 

@@ -27,16 +27,6 @@ pub struct Settled {
     pub left: Vec<MsgName>,
 }
 
-/// Takes so many off the credit, if it has them.
-fn spend(credit: &mut usize, sends: usize) -> bool {
-    if sends <= *credit {
-        *credit -= sends;
-        true
-    } else {
-        false
-    }
-}
-
 /// Adds what is in transit of a process, and answers at how many of its sends it need not look
 /// again. These are all, unless the credit is less than the sends to look at, or the messages in
 /// transit are more than an eighth of all its sends: then they are as many as before, and only what
@@ -75,9 +65,11 @@ fn settle_sender(
         history, line, p, end, left, row, base, known, alloc, messages,
     )?;
     let first = messages.len();
-    if !spend(credit, sends.saturating_sub(end) as usize) {
+    let asked = sends.saturating_sub(end) as usize;
+    if *credit < asked {
         return Ok(end);
     }
+    *credit -= asked;
     let looked = add_since(
         history,
         line,

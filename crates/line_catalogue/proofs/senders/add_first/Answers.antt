@@ -1,5 +1,5 @@
 -- What was kept, alone or with the row.
-use Rattle.std.proofs.Common.{◌≡◌, ◌++◌, ℕ, List, map, sym, ap, ◌∙◌, subst, inl, inr}
+use Rattle.std.proofs.Common.{◌≡◌, ◌++◌, ℕ, List, map, sym, subst, inl, inr}
 use Rattle.std.specs.List.{All, Contains}
 use Rattle.std.specs.List.Sorted.{IsNonDecreasing}
 use Rattle.std.proofs.lemmas.List.Elements.{Contains-append_left, Contains-append_right}
@@ -41,9 +41,8 @@ add_old-requires-clause-held c = λ q m from low sent unseen.
     let own : List MsgName = messages_of c.args.p c.args.left.now in
     let old : List ℕ = c.args.row.now in
     let of : List MsgName → List ℕ = λ ms. map (λ (x : MsgName). x.number) ms in
-    let all : c.in_ok-both.both ≡ of own ++ old = c.in_ok-both.ensures ∙ ap (λ (ms : List MsgName). of ms ++ old) c.sent_by-kept.ensures in
     let among : Contains (of own ++ old) m.number = elim (c.requires.held q m from low sent unseen) [
       | inl row ↦ Contains-append_right (of own) old m.number row
       | inr left ↦ Contains-append_left (of own) old m.number (in_map (λ (x : MsgName). x.number) own m (in-messages_of c.args.p c.args.left.now m from left))
     ] in
-    subst (λ (row : List ℕ). Contains row m.number) (sym c.as_slice.ensures) (c.sort.ensures.kept m.number (subst (λ (row : List ℕ). Contains row m.number) (sym all) among))
+    subst (λ (row : List ℕ). Contains row m.number) (sym c.as_slice.ensures) (c.in_ok-both.ensures.kept m.number (subst (λ (ms : List MsgName). Contains (of ms ++ old) m.number) (sym c.sent_by-kept.ensures) among))
