@@ -105,34 +105,6 @@ fn is_open(history: &History, line: &Line, message: &MsgName, base: u32, known: 
     }
 }
 
-/// Adds a message that was kept, if it is still in transit.
-fn add_if_still_open(
-    history: &History,
-    line: &Line,
-    message: &MsgName,
-    base: u32,
-    known: &[bool],
-    messages: &mut Vec<MsgName>,
-) -> Result<(), AllocError>
-    requires line { IsLine history.now.processes line.now }
-    requires number { message.now.number
-        < sends (events_before history.now.processes line.now message.now.from) }
-    requires sent { (q : ℕ) × IsSentTo history.now.processes q message.now }
-    requires told { AreMarksExact history.now.processes line.now message.now.from base known.now
-        (message.now ∷ []) }
-    ensures { OnOk result ((before : List MsgName)
-        → messages.old.items
-        ≡ before ++ open_first history.now.processes line.now message.now.from message.now.number
-        → messages.new.items
-        ≡ before ++ open_first history.now.processes line.now message.now.from
-        (message.now.number + 1)) }
-{
-    if is_open(history, line, message, base, known) {
-        messages.push(*message)?;
-    }
-    Ok(())
-}
-
 /// Adds those of a process's first `end` messages that are in transit, where they were all kept.
 fn add_kept(
     history: &History,
@@ -158,7 +130,9 @@ fn add_kept(
     let mut next = 0;
     for message in kept {
         if next <= message.number && message.number < end {
-            add_if_still_open(history, line, message, base, known, messages)?;
+            if is_open(history, line, message, base, known) {
+                messages.push(*message)?;
+            }
             next = message.number + 1;
         }
     }
