@@ -187,34 +187,6 @@ fn marks_before(kept: usize, n: u32) -> u32 {
     marks.min(u32::MAX as usize) as u32
 }
 
-/// The marks of all processes, none of them set.
-fn unmarked(
-    history: &History,
-    ends: &[u32],
-    kept: usize,
-    alloc: Global,
-    line: &Line,
-) -> Result<Known, AllocError>
-    requires line { IsLine history.now.processes line.now }
-    requires count { length ends.now ≡ length history.now.processes }
-    ensures rows { IfOk result (λ known.
-        AreMarkRows history.now.processes known.starts.items known.marks.items) }
-    ensures bases { IfOk result (λ known.
-        length known.bases.items ≡ length history.now.processes) }
-    ensures none { IfOk result (λ known. AreKnown history.now.processes line.now
-        known.bases.items known.starts.items known.marks.items) }
-{
-    let bases = find_bases(ends, marks_before(kept, history.n()), alloc)?;
-    let starts = find_starts(history, bases.as_slice(), alloc, line)?;
-    let all = starts[starts.len() - 1];
-    let marks = vec![in alloc; false; all]?;
-    Ok(Known {
-        bases,
-        starts,
-        marks,
-    })
-}
-
 /// Whether the sender's tape holds the message, and its send is to process `q`.
 fn is_sent_to(history: &History, message: &MsgName, q: ProcId) -> bool
     requires { message.now.from < length history.now.processes }
@@ -316,6 +288,49 @@ fn mark_receipts(
     }
 }
 
+/// The marks of all processes, where there is memory for them: those are set that the receipts after
+/// the places and before the line tell.
+fn mark_all(
+    history: &History,
+    ends: &[u32],
+    places: &[u32],
+    kept: usize,
+    alloc: Global,
+    line: &Line,
+) -> Result<Known, AllocError>
+    requires line { IsLine history.now.processes line.now }
+    requires count { length ends.now ≡ length history.now.processes }
+    requires places { length places.now ≡ length history.now.processes }
+    ensures known { IfOk result (λ known. AreKnown history.now.processes line.now
+        known.bases.items known.starts.items known.marks.items) }
+    ensures noted { IfOk result (λ known. AreAllReceiptsMarked history.now.processes line.now
+        places.now known.bases.items known.starts.items known.marks.items) }
+{
+    let n = history.n();
+    let bases = find_bases(ends, marks_before(kept, n), alloc)?;
+    let starts = find_starts(history, bases.as_slice(), alloc, line)?;
+    let all = starts[starts.len() - 1];
+    let mut marks = vec![in alloc; false; all]?;
+    for receiver in 0..n {
+        let q = ProcId::try_new(receiver, n).unwrap();
+        let place = places[receiver as usize];
+        mark_receipts(
+            history,
+            line,
+            q,
+            place,
+            bases.as_slice(),
+            starts.as_slice(),
+            marks.as_mut_slice(),
+        );
+    }
+    Ok(Known {
+        bases,
+        starts,
+        marks,
+    })
+}
+
 /// For each process marks at its sends from its base on: whatever is marked is received before the
 /// line. All is marked that the receipts after the places and before the line tell. So of what was
 /// kept, `kept` messages in all, a message is in transit where it has a mark that is not set. There
@@ -341,35 +356,8 @@ pub fn find_known(
     if !is_worth_walking(history, ends, places, kept, line) {
         return Known::none(alloc);
     }
-    match unmarked(history, ends, kept, alloc, line) {
-        Ok(
-            Known {
-                bases,
-                starts,
-                marks,
-            },
-        ) => {
-            let mut marks = marks;
-            let n = history.n();
-            for receiver in 0..n {
-                let q = ProcId::try_new(receiver, n).unwrap();
-                let place = places[receiver as usize];
-                mark_receipts(
-                    history,
-                    line,
-                    q,
-                    place,
-                    bases.as_slice(),
-                    starts.as_slice(),
-                    marks.as_mut_slice(),
-                );
-            }
-            Known {
-                bases,
-                starts,
-                marks,
-            }
-        }
+    match mark_all(history, ends, places, kept, alloc, line) {
+        Ok(known) => known,
         Err(AllocError) => Known::none(alloc),
     }
 }

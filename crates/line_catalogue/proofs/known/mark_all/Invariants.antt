@@ -1,7 +1,7 @@
 use Rattle.std.proofs.Common.{◌<◌, ℕ}
 use Rattle.line_catalogue.specs.Known.{AreKnown, AreMarkRows, AreReceiptsMarkedSince}
 use Rattle.line_catalogue.specs.Left.{place_at}
-use Rattle.line_catalogue.proofs.known.find_known.Given as goal
+use Rattle.line_catalogue.proofs.known.mark_all.Given as goal
 
 abbrev pub invariant-loop-receiver : goal.invariant-loop-receiver
 invariant-loop-receiver l = record {
