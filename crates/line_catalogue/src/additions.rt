@@ -11,18 +11,6 @@ use crate::refusals::AddError;
 use line_names::ProcId;
 use line_tape::{Event, History, MOST_EVENTS, MOST_STATE};
 
-/// Whether the event stores more than a tape takes.
-fn has_long_state(event: &Event) -> bool
-    ensures { IsTrue result ↔ HasLongState event.now }
-{
-    match event {
-        Event::Send { .. } => false,
-        Event::Recv { .. } => false,
-        Event::Check { state, .. } => state.bytes().len() > MOST_STATE,
-        Event::Mark { .. } => false,
-    }
-}
-
 /// Whether a history that agrees does so with the event at process p too, and a send has the
 /// present incarnation.
 fn agrees_next(history: &History, p: ProcId, event: &Event) -> bool
@@ -70,8 +58,10 @@ impl Catalogue {
         if p.get() >= n || !event.names_below(n) {
             return Err(AddError::NoSuchProcess);
         }
-        if has_long_state(event) {
-            return Err(AddError::StateTooLong);
+        if let Event::Check { state, .. } = event {
+            if state.bytes().len() > MOST_STATE {
+                return Err(AddError::StateTooLong);
+            }
         }
         if history.tape(p).len() as usize >= MOST_EVENTS {
             return Err(AddError::TapeFull);

@@ -1,5 +1,5 @@
 //! What is known of the checks of one process, and of where it stands.
-ghost use Rattle.std.specs.Prelude.{◌≡◌, ◌<◌, ◌≤◌, ◌+◌, ◌-◌, ◌^◌, ℕ, Bool, false, List, [], ◌∷◌};
+ghost use Rattle.std.specs.Prelude.{◌≡◌, ◌<◌, ◌≤◌, ◌+◌, ◌-◌, ℕ, Bool, false, List, [], ◌∷◌};
 ghost use Rattle.std.specs.Prelude.{◌++◌, if◌then◌else◌, length, map, replicate, vec_len};
 ghost use Rattle.std.specs.Prelude.{vec_capacity, IfOk, IsOk, OnOk};
 ghost use Rattle.line_names.specs.declared.choices.Choice.TheVariants.{Check as AtCheck};
@@ -66,15 +66,6 @@ fn lay(lanes: &mut Vec<u32>, present: &Reach, heard: bool)
     }
 }
 
-/// Where the last vector of `n` lanes begins.
-fn last_start(lanes: &Vec<u32>, n: usize) -> u32
-    requires within { n ≤ vec_len lanes.now }
-    requires few { vec_len lanes.now < 2 ^ 32 }
-    ensures { result ≡ vec_len lanes.now - n }
-{
-    (lanes.len() - n) as u32
-}
-
 /// Adds the row of a check, with the vector of where the process stands, in room that was made for
 /// both.
 fn add_row(
@@ -100,7 +91,7 @@ fn add_row(
 {
     lay(lanes, present, heard);
     let n = present.n();
-    let start = last_start(lanes, n);
+    let start = (lanes.len() - n) as u32;
     rows.push_reserved(KeptRow {
         place,
         sends,

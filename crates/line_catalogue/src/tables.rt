@@ -1,12 +1,10 @@
 //! The rows and vectors of all processes.
-ghost use Rattle.std.specs.Prelude.{◌≡◌, ◌≢◌, ◌<◌, ◌≤◌, ◌+◌, ℕ, [], ◌∷◌, ◌++◌, All, List, length};
+ghost use Rattle.std.specs.Prelude.{◌≡◌, ◌≢◌, ◌<◌, ◌≤◌, ◌+◌, ℕ, [], All, length};
 ghost use Rattle.std.specs.Prelude.{slice_set, slice_index_or, IfOk, IsOk, OnOk, if◌then◌else◌};
 ghost use Rattle.line_names.specs.declared.choices.Choice.TheVariants.{Check as AtCheck};
 ghost use Rattle.line_names.specs.Lines.{choice_at};
-ghost use Rattle.line_tape.specs.declared.events.Event.{Event};
 ghost use Rattle.line_tape.specs.Event.{checks, sends, NamesBelow};
 ghost use Rattle.line_tape.specs.History.{tape_at};
-ghost use Rattle.line_tape.specs.Shown.{event_of_ref};
 ghost use Rattle.line_tape.specs.Survival.{is_damaged};
 ghost use Rattle.line_tape.specs.Views.{damaged_at};
 ghost use Rattle.line_vectors.specs.Reach.{reach_of};
@@ -45,20 +43,6 @@ impl Model for RowTable {
     } };
 }
 
-/// How many sends a tape has with one event more, where it had so many before.
-fn sends_with(event: &EventRef<'_>, before: u32) -> u32
-    requires { before < MOST_EVENTS }
-    ensures { (tape : List Event) → before ≡ sends tape
-        → result ≡ sends (tape ++ event_of_ref event.now ∷ []) }
-{
-    match event {
-        EventRef::Send { .. } => before + 1,
-        EventRef::Recv { .. } => before,
-        EventRef::Check { .. } => before,
-        EventRef::Mark { .. } => before,
-    }
-}
-
 /// The rows of a tape, with no damage, and its vector. It looks once at each event.
 fn rows_of_tape(alloc: Global, n: u32, tape: &Tape) -> Result<ProcessRows, AllocError>
     requires some { 0 < n }
@@ -73,7 +57,9 @@ fn rows_of_tape(alloc: Global, n: u32, tape: &Tape) -> Result<ProcessRows, Alloc
         let event = tape.event(i);
         process.reserve(1)?;
         process.append(&event, i + 1, sent);
-        sent = sends_with(&event, sent);
+        if let EventRef::Send { .. } = event {
+            sent += 1;
+        }
     }
     Ok(process)
 }
