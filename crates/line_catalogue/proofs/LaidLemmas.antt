@@ -147,10 +147,6 @@ module _ (lanes present : List ℕ) (rows : List KeptRow) (heard : Bool) (c : �
   back-among : AreAmong (length present) (length back-lanes) (take (c + 1) rows)
   back-among k d h = omega (arith, back-start k d h, back-before k d h, back-many)
 
-  -- the vector of the row
-  pub back-reach : (get_or (map (row_of (length present) lanes) rows) c no_row).reach ≡ back-vector
-  back-reach = ap (λ (r : Row). r.reach) (get_or-map (row_of (length present) lanes) rows c row no_row within ∙ ap (row_of (length present) lanes) (sym is))
-
   pub back-laid : Shows back-lanes (take (c + 1) rows) false back-vector (length present) (take (c + 1) (map (row_of (length present) lanes) rows))
   back-laid = record {
     laid = record {

@@ -10,12 +10,12 @@ use Rattle.line_names.specs.Lines.{choice_at}
 use Rattle.line_tape.specs.declared.events.Event.{Event}
 use Rattle.line_tape.specs.declared.events.Event.TheVariants.{Send, Recv, Check, Mark}
 use Rattle.line_tape.specs.Event.{checks, incarnations_sent}
-use Rattle.line_tape.specs.Front.{place, front, HasChoice}
+use Rattle.line_tape.specs.Front.{front, HasChoice}
 use Rattle.line_tape.specs.History.{Process, fresh, tape_at}
 use Rattle.line_tape.specs.Line.{events_before, IsLine, IsConsistent, IsSentBefore}
 use Rattle.line_tape.specs.Restart.{restarted_history, restarted_event, restarted_process, restarted_marks, is_kept}
 use Rattle.line_tape.specs.Views.{MarksView, damaged_at}
-use Rattle.line_tape.proofs.CutLemmas.{checks_left, checks_take, received_left, sent_left}
+use Rattle.line_tape.proofs.CutLemmas.{checks_left, received_left, sent_left}
 use Rattle.line_tape.proofs.EachLemmas.{each_at, length-each, restarted-each, damage-each, kept_damage}
 use Rattle.line_tape.proofs.LineLemmas.{front-empty, tape_at-past}
 use Rattle.line_catalogue.specs.declared.kept_rows.Row.{Row}
@@ -86,10 +86,6 @@ module _ (history : List Process) (line : List Choice) (is_line : IsLine history
   -- the checks of what is left
   checks-restarted : (p : ℕ) → p < length history → checks (tape_at (restarted_history history line) p) ≡ checks (events_before history line p)
   checks-restarted p within = ap checks (tape-restarted p within) ∙ checks_left (events_before history line p)
-
-  -- no more than there were
-  pub checks-fewer : (p : ℕ) → p < length history → checks (tape_at (restarted_history history line) p) ≤ checks (tape_at history p)
-  checks-fewer p within = omega (arith, checks-restarted p within, checks_take (tape_at history p) (place (tape_at history p) (choice_at line p)))
 
   module _ (marks : MarksView) (count : length marks.damaged ≡ length history) where
     -- as many processes as there were
