@@ -288,8 +288,8 @@ fn mark_receipts(
     }
 }
 
-/// The marks of all processes, where there is memory for them: those are set that the receipts after
-/// the places and before the line tell.
+/// The marks of all processes, where there is memory for them: those are set that the receipts
+/// after the places and before the line tell.
 fn mark_all(
     history: &History,
     ends: &[u32],

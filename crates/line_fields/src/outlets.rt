@@ -192,7 +192,7 @@ fn push_numbers(text: &mut Vec<u8>, numbers: &[u64])
     }
 }
 
-// Writes a name, some numbers and what stands behind them, and asks for the room of each by itself.
+// Writes a name, some numbers and what stands after them, and asks for the room of each by itself.
 #[cold]
 #[inline(never)]
 fn begin_far<K: Sink>(
