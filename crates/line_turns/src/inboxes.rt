@@ -1,28 +1,17 @@
 //! What is in transit to one process.
 ghost use Rattle.std.specs.Prelude.{◌≡◌, ◌↔◌, ℕ, IfOk, IsTrue, length};
-ghost use Rattle.line_turns.specs.Inboxes.{messages_from, AreFrom, AreSentBy, ComeBySender};
+ghost use Rattle.line_turns.specs.Inboxes.{messages_from, AreFrom, ComeBySender};
 
 use line_names::{MsgName, ProcId};
 use std::alloc::{AllocError, Global};
 use std::marker::Model;
 
-/// The senders of messages, each as one of 64 bits, which processes 64 apart share.
-fn senders_of(messages: &[MsgName]) -> u64
-    ensures { AreSentBy result messages.now }
-{
-    let mut senders = 0u64;
-    'each: for i in 0..messages.len() {
-        senders |= 1 << (messages[i].from.get() % 64);
-    }
-    senders
-}
-
 /// What is in transit to one process, by sender, so that what one of them sent is a part of it.
 #[derive(Drop)]
 pub(crate) struct Inbox {
     to: ProcId,
-    /// A bit for each process that sent something of it, so that most others are passed over at a
-    /// look.
+    /// A bit for each process that sent something of it, which processes 64 apart share, so that
+    /// most others are passed over at a look.
     senders: u64,
     messages: Vec<MsgName>,
 }
@@ -53,7 +42,10 @@ impl Inbox {
     {
         let mut messages = Vec::from_slice(alloc, messages)?;
         messages.sort_by_key(|message| message.from.get())?;
-        let senders = senders_of(&messages);
+        let mut senders = 0u64;
+        'each: for i in 0..messages.len() {
+            senders |= 1 << (messages[i].from.get() % 64);
+        }
         Ok(Inbox {
             to,
             senders,

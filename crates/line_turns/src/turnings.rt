@@ -35,13 +35,6 @@ impl Model for Turning {
     ghost invariant = { λ t. length t.checks.items ≤ MOST_PROCESSES };
 }
 
-/// No check of any of `n` processes.
-fn no_checks(alloc: Global, n: u32) -> Result<Vec<u32>, AllocError>
-    ensures { IfOk result (λ checks. checks.items ≡ replicate n 0) }
-{
-    vec![in alloc; 0; n as usize]
-}
-
 impl Turning {
     /// The round of that number, of which none of `n` processes has its check yet. It takes memory
     /// for each process, and fails if memory runs out.
@@ -53,7 +46,7 @@ impl Turning {
             → ((q : ℕ) → has_check_of number (tape_at history q) ≡ false)
             → IsTurning history turning) }
     {
-        let checks = no_checks(alloc, n)?;
+        let checks = vec![in alloc; 0; n as usize]?;
         Ok(Turning { number, checks })
     }
 
