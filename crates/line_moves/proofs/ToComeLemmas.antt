@@ -1,12 +1,12 @@
 -- How many markers of a round have come, and how many are still to come.
-use Rattle.std.proofs.Common.{◌≡◌, ◌≢◌, ℕ, zero, suc, ◌+◌, ◌-◌, ◌*◌, ◌<◌, ◌≤◌, Bool, true, false, cond, List, [], ◌∷◌, ◌++◌, length, get_or, set, Option, Some, refl, sym, ap, ◌∙◌, subst, arith, inl, inr}
+use Rattle.std.proofs.Common.{◌≡◌, ◌≢◌, ℕ, zero, suc, ◌+◌, ◌-◌, ◌*◌, ◌<◌, ◌≤◌, Bool, true, false, cond, List, [], ◌∷◌, ◌++◌, length, get_or, set, replicate, Option, Some, None, refl, sym, ap, ◌∙◌, subst, arith, inl, inr}
 use Rattle.std.specs.Prelude.{◌==◌}
 use Rattle.std.specs.List.{count_by, sum_by}
 use Rattle.std.proofs.lemmas.Bool.{cases_eq}
 use Rattle.std.proofs.lemmas.List.{length-set, get_or_default, get_or-set_same, get_or-set_other}
 use Rattle.std.proofs.lemmas.List.Sums.{sum_by-cons, sum_by-set}
 use Rattle.line_names.specs.declared.messages.MsgName.{MsgName}
-use Rattle.line_marker.specs.Recording.{Channel, MarkerView, RecordedRound, open_channel, channel_at, with_channel, with_message, rounds_with_message, round_of, IsSameProcess}
+use Rattle.line_marker.specs.Recording.{Channel, MarkerView, RecordedRound, open_channel, channel_at, with_channel, with_marker, with_message, with_round, rounds_with_message, round_of, IsSameProcess}
 use Rattle.line_tape.specs.declared.events.Event.{Event}
 use Rattle.line_tape.specs.History.{Process, tape_at}
 use Rattle.line_tape.specs.Rounds.{is_completed_fifo}
@@ -50,6 +50,50 @@ count_noted r message (round ∷ rounds) =
       | false ↦ count_noted r message rounds
     ]
 
+-- a marker closes one at most
+unit_le : (b : Bool) → unit b ≤ 1
+unit_le true = omega arith
+unit_le false = omega arith
+
+count_one_more : (channels : List Channel) (p : ℕ) (channel : Channel) → closed_count (set channels p channel) ≤ closed_count channels + 1
+count_one_more [] p channel = omega arith
+count_one_more (first ∷ rest) zero channel = omega (arith, unit_le channel.is_closed, sum_by-cons weight channel rest, sum_by-cons weight first rest)
+count_one_more (first ∷ rest) (suc p) channel = omega (arith, count_one_more rest p channel, sum_by-cons weight first (set rest p channel), sum_by-cons weight first rest)
+
+count_marked : (r from number : ℕ) (rounds : List RecordedRound) → count_in r (with_marker rounds from number) ≤ count_in r rounds + 1
+count_marked r from number [] = omega arith
+count_marked r from number (round ∷ rounds) =
+    let new : RecordedRound = with_channel round from (record (channel_at round from) { is_closed = true }) in
+    let marked : List RecordedRound = with_marker rounds from number in
+    elim (round.number == number) as (λ a. closed_count (channels_in (round_of (cond a new round ∷ marked) r)) ≤ closed_count (channels_in (round_of (round ∷ rounds) r)) + 1) [
+      | true ↦ elim (round.number == r) as (λ b. closed_count (channels_in (cond b (Some new) (round_of marked r))) ≤ closed_count (channels_in (cond b (Some round) (round_of rounds r))) + 1) [
+        | true ↦ count_one_more round.channels from (record (channel_at round from) { is_closed = true })
+        | false ↦ count_marked r from number rounds
+      ]
+      | false ↦ elim (round.number == r) as (λ b. closed_count (channels_in (cond b (Some round) (round_of marked r))) ≤ closed_count (channels_in (cond b (Some round) (round_of rounds r))) + 1) [
+        | true ↦ omega arith
+        | false ↦ count_marked r from number rounds
+      ]
+    ]
+
+-- and a round that begins none
+count_open : (n : ℕ) → closed_count (replicate n open_channel) ≡ 0
+count_open zero = refl
+count_open (suc n) = omega (arith, sum_by-cons weight open_channel (replicate n open_channel), count_open n)
+
+count_begun : (r n number : ℕ) (rounds : List RecordedRound) → count_in r (with_round rounds n number) ≤ count_in r rounds
+count_begun r n number [] =
+    let none : Option RecordedRound = None in
+    elim (number == r) as (λ b. closed_count (channels_in (cond b (Some (record { number = number; channels = replicate n open_channel })) none)) ≤ 0) [
+      | true ↦ omega (arith, count_open n)
+      | false ↦ omega arith
+    ]
+count_begun r n number (round ∷ rounds) =
+    elim (round.number == r) as (λ b. closed_count (channels_in (cond b (Some round) (round_of (with_round rounds n number) r))) ≤ closed_count (channels_in (cond b (Some round) (round_of rounds r)))) [
+      | true ↦ omega arith
+      | false ↦ count_begun r n number rounds
+    ]
+
 -- another marker of the same process
 module _ (n : ℕ) (markers : List MarkerView) (are : AreMarkers n markers) (p : ℕ) (old new : MarkerView) (within : p < length markers) (at : old ≡ get_or markers p old) (is : IsSameProcess old new) where
   own : old ≡ marker_at markers p
@@ -81,6 +125,26 @@ module _ (n : ℕ) (markers : List MarkerView) (are : AreMarkers n markers) (p :
 
     pub AreToCome-noted : (message : MsgName) → new.rounds ≡ rounds_with_message old.rounds message → AreToCome to_come n r (set markers p new)
     AreToCome-noted message is = AreToCome-set (omega (arith, ap (count_in r) is, count_noted r message old.rounds))
+
+    -- what is kept of the round beside the markers is as it was, or one marker fewer is to come
+    module _ (size number : ℕ) (size_is : size ≡ n) (number_is : number ≡ r) where
+      kept : (others : ℕ) → AreToCome others n r (set markers p new) → AreMarkers size (set markers p new) × AreToCome others size number (set markers p new)
+      kept others left = (
+        subst (λ (v : ℕ). AreMarkers v (set markers p new)) (sym size_is) AreMarkers-set,
+        subst (λ (v : ℕ). AreToCome others v number (set markers p new)) (sym size_is) (subst (λ (v : ℕ). AreToCome others n v (set markers p new)) (sym number_is) left),
+      )
+
+      pub kept-begun : (k s : ℕ) → new.rounds ≡ with_round old.rounds k s → AreMarkers size (set markers p new) × AreToCome to_come size number (set markers p new)
+      kept-begun k s rounds = kept to_come (AreToCome-set (omega (arith, ap (count_in r) rounds, count_begun r k s old.rounds)))
+
+      kept-fewer : (others : ℕ) → others ≡ to_come - 1 → count_in r new.rounds ≤ count_in r old.rounds + 1 → AreMarkers size (set markers p new) × AreToCome others size number (set markers p new)
+      kept-fewer others fewer more = kept others (λ some. omega (arith, fewer, more, some, coming (omega (arith, fewer, some)), sum_by-set (markers_heard r) markers p new old within, ap (markers_heard r) at))
+
+      pub kept-heard : (others from s : ℕ) → others ≡ to_come - 1 → new.rounds ≡ with_marker old.rounds from s → AreMarkers size (set markers p new) × AreToCome others size number (set markers p new)
+      kept-heard others from s fewer rounds = kept-fewer others fewer (omega (arith, ap (count_in r) rounds, count_marked r from s old.rounds))
+
+      pub kept-forced : (others k from s : ℕ) → others ≡ to_come - 1 → new.rounds ≡ with_marker (with_round old.rounds k s) from s → AreMarkers size (set markers p new) × AreToCome others size number (set markers p new)
+      kept-forced others k from s fewer rounds = kept-fewer others fewer (omega (arith, ap (count_in r) rounds, count_marked r from s (with_round old.rounds k s), count_begun r k s old.rounds))
 
 -- a sum of terms that are 0
 sum_none : (f : MarkerView → ℕ) (markers : List MarkerView) → ((q : ℕ) → q < length markers → f (marker_at markers q) ≡ 0) → sum_by f markers ≡ 0

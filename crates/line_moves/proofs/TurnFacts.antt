@@ -1,12 +1,14 @@
 -- The round of colours that is open in a world, and what a turn does to it.
-use Rattle.std.proofs.Common.{◌≡◌, ◌≢◌, ℕ, ◌<◌, Bool, true, false, cond, List, [], ◌∷◌, length, map, Option, Some, None, refl, sym, ap, ◌∙◌, subst, arith, inl, inr}
-use Rattle.std.specs.Prelude.{◌==◌, ◌&&◌, ◌↔◌, IsTrue, if◌then◌else◌, not}
+use Rattle.std.proofs.Common.{◌≡◌, ◌≢◌, ℕ, ◌<◌, Bool, true, false, cond, List, [], ◌∷◌, length, map, Option, Some, None, Bor, refl, sym, ap, ◌∙◌, subst, arith, inl, inr}
+use Rattle.std.specs.Prelude.{◌==◌, ◌&&◌, ◌↔◌, IsTrue, IfSome, if◌then◌else◌, not}
+use Rattle.std.specs.Option.{option_copied}
 use Rattle.std.specs.List.{range_with_len}
 use Rattle.std.proofs.lemmas.Bool.{cases_eq, eq-eqb}
 use Rattle.std.proofs.lemmas.List.{length-map}
 use Rattle.line_names.specs.declared.choices.Choice.{Choice}
 use Rattle.line_names.specs.declared.choices.Choice.TheVariants.{Check as AtCheck}
 use Rattle.line_names.specs.declared.messages.MsgName.{MsgName}
+use Rattle.line_marker.specs.Recording.{MarkerView}
 use Rattle.line_tape.specs.declared.events.Event.{Event}
 use Rattle.line_tape.specs.declared.events.Event.TheVariants.{Check}
 use Rattle.line_tape.specs.Colours.{is_completed_unordered}
@@ -23,8 +25,8 @@ use Rattle.line_turns.specs.Channels.{channels_at}
 use Rattle.line_turns.specs.Tables.{between, IsTable}
 use Rattle.line_turns.specs.Turning.{TurningView, IsLastLine, IsTurning}
 use Rattle.line_steps.specs.declared.modes.Mode.TheVariants.{Unordered}
-use Rattle.line_moves.specs.Listed.{ListedRound, channel, channel_table, is_begun, is_completed, listed_round}
-use Rattle.line_moves.specs.Openings.{OpenView, left_open, newly_closed, opened_by, opened_turning, AreInTransit, IsCountedAtRound, IsOpenTurning}
+use Rattle.line_moves.specs.Listed.{ListedRound, channel, channel_table, is_begun, is_completed, listed_round, IsSnapshotOf}
+use Rattle.line_moves.specs.Openings.{OpenView, channels_kept, left_open, newly_closed, opened_by, opened_turning, AreChannels, AreInTransit, IsCountedAtRound, IsOpenTurning}
 use Rattle.line_moves.specs.Worlds.{AreRounds}
 use Rattle.line_moves.proofs.FateLemmas.{same_test}
 use Rattle.line_moves.proofs.LinkLemmas.{length-with_event}
@@ -124,6 +126,18 @@ kept_found history indices table shape snapshot =
           sym (table_cell (length indices) (between table) p q (omega (arith, p_within, size)) (omega (arith, q_within, size)) apart)
           ∙ snapshot.transit p q p_within q_within apart;
     }
+
+-- and as they are lent, if there are any
+pub lent_found : (history : List Process) (number : ℕ) (indices : List ℕ) (markers : List MarkerView) (counted : Option (List (List (List MsgName)))) (round : ListedRound)
+    → (let it : ListedRound = record { number = number; checks = indices; channels = channels_kept counted (length indices) markers number } in it) ≡ round → AreChannels counted (length indices) markers → IsSnapshotOf history round
+    → (lent : Option (Bor (List (List (List MsgName))))) → option_copied lent ≡ counted → IfSome lent (λ channels. AreInTransit history (check_line round.checks) channels.now)
+lent_found history number indices markers counted round same are snapshot None is = tt
+lent_found history number indices markers counted round same are snapshot (Some channels) is =
+    let table : List (List (List MsgName)) = channels.now in
+    let shown : Option (List (List (List MsgName))) → ListedRound = λ o. record { number = number; checks = indices; channels = channels_kept o (length indices) markers number } in
+    let seen : shown (Some table) ≡ round = ap shown is ∙ same in
+    let shape : IsTable (length indices) table = subst (λ (o : Option (List (List (List MsgName)))). AreChannels o (length indices) markers) (sym is) are in
+    subst (λ (l : ListedRound). AreInTransit history (check_line l.checks) table) seen (kept_found history indices table shape (subst (IsSnapshotOf history) (sym seen) snapshot))
 
 -- the round of colours that is completed, as it is listed
 pub counted_is : (history : List Process) (turning : TurningView) → IsTurning history turning → is_completed_unordered history turning.number ≡ true → (indices : List ℕ) (table : List (List (List MsgName))) (number : ℕ)

@@ -225,11 +225,6 @@ pub record AreInTransit (history : List Process) (line : List Choice)
   pub each : (p q : ℕ) → p < length history → q < length history → p ≢ q
       → between table p q ≡ in_transit_between history line p q
 
--- where there are channels, they have what is in transit at a line
-abbrev pub AreFoundAt : List Process → List Choice → Option (List (List (List MsgName))) → Type 0
-AreFoundAt history line None = Unit {0}
-AreFoundAt history line (Some table) = AreInTransit history line table
-
 -- a table of channels has what is in transit where process p stands now and each other is at its
 -- check
 pub record AreCountedAtLast (history : List Process) (turning : TurningView) (p : ℕ)

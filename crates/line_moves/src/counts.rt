@@ -1,10 +1,9 @@
 //! What is in transit at the checks of a completed round of colours (Lai and Yang, Information
 //! Processing Letters 25(3), 1987).
-ghost use Rattle.std.specs.Prelude.{◌≡◌, ◌≢◌, ◌<◌, ◌≤◌, ℕ, List, All, true, false, length, IfOk};
+ghost use Rattle.std.specs.Prelude.{◌≡◌, ◌≢◌, ◌<◌, ℕ, List, All, true, false, length, IfOk};
 ghost use Rattle.std.specs.Prelude.{Some};
 ghost use Rattle.line_names.specs.declared.choices.Choice.TheVariants.{Check as AtCheck};
 ghost use Rattle.line_tape.specs.declared.events.Event.TheVariants.{Check};
-ghost use Rattle.line_tape.specs.Event.{checks};
 ghost use Rattle.line_tape.specs.Front.{front, HasChoice};
 ghost use Rattle.line_tape.specs.History.{tape_at, with_event};
 ghost use Rattle.line_tape.specs.Line.{IsLine};
@@ -12,7 +11,7 @@ ghost use Rattle.line_tape.specs.Rounds.{check_line, has_check_of};
 ghost use Rattle.line_tape.specs.Transit.{in_transit_between, letters, names_received};
 ghost use Rattle.line_turns.specs.Turning.{IsTurning};
 ghost use Rattle.line_moves.specs.Listed.{IsSnapshotOf};
-ghost use Rattle.line_moves.specs.Openings.{AreCountedAtLast, AreFoundAt, AreInTransit};
+ghost use Rattle.line_moves.specs.Openings.{AreCountedAtLast};
 ghost use Rattle.line_moves.specs.Openings.{IsCountedAtRound};
 
 use crate::rounds::Round;
@@ -21,17 +20,6 @@ use line_names::{Choice, Line, ProcId};
 use line_tape::{History, Tape};
 use line_turns::{Channels, SharedChannels, Turning};
 use std::alloc::{AllocError, Global};
-
-/// How many checks stand before a choice.
-fn checks_before(tape: &Tape, choice: Choice) -> u32
-    requires { HasChoice tape.now.events choice }
-    ensures { result ≡ checks (front tape.now.events choice) }
-{
-    match choice {
-        Choice::Check(check) => check,
-        Choice::Now => tape.checks(),
-    }
-}
 
 /// Whether a choice is no earlier than a check, and only checks stand between the two. It takes
 /// constant time.
@@ -45,7 +33,10 @@ fn are_checks_between(tape: &Tape, check: u32, choice: Choice) -> bool
 {
     let before = tape.front(Choice::Check(check)).len();
     let after = tape.front(choice).len();
-    let checks = checks_before(tape, choice);
+    let checks = match choice {
+        Choice::Check(check) => check,
+        Choice::Now => tape.checks(),
+    };
     before <= after && after + check as usize == before + checks as usize
 }
 
@@ -68,25 +59,6 @@ fn is_still_at(history: &History, round: &Round, line: &Line) -> bool
     true
 }
 
-/// The channels of the last round, if nothing was sent or received between its checks and the line.
-/// It takes one step for each process, and no memory.
-fn channels_still(
-    history: &History,
-    rounds: &[Round],
-    line: &Line,
-) -> Result<Option<SharedChannels>, AllocError>
-    requires rounds { All (IsSnapshotOf history.now.processes) rounds.now }
-    requires line { IsLine history.now.processes line.now }
-    ensures { IfOk result (AreFoundAt history.now.processes line.now) }
-{
-    if let Some(round) = rounds.last() {
-        if is_still_at(history, round, line) {
-            return round.share();
-        }
-    }
-    Ok(None)
-}
-
 /// These channels; if the last round has the same, both rounds share them.
 ///
 /// It looks at no more messages than the smaller of the two holds.
@@ -103,35 +75,14 @@ fn shared(alloc: Global, rounds: &[Round], channels: Channels) -> Result<SharedC
     SharedChannels::new(alloc, channels)
 }
 
-/// What is in transit at a line.
-///
-/// If the last round has the same in transit, both rounds share it. The catalogue keeps it too, so
-/// that the next count looks at no other message that was sent before this line.
-fn count_anew(
-    alloc: Global,
-    catalogue: &mut Catalogue,
-    rounds: &[Round],
-    line: &Line,
-) -> Result<SharedChannels, AllocError>
-    requires { IsLine catalogue.old.processes line.now }
-    ensures channels { IfOk result (AreInTransit catalogue.old.processes line.now) }
-    ensures processes { catalogue.new.processes ≡ catalogue.old.processes }
-    ensures marks { catalogue.new.marks ≡ catalogue.old.marks }
-    ensures rooms { catalogue.new.rooms ≡ catalogue.old.rooms }
-{
-    let messages = catalogue.transit(alloc, line)?;
-    let held = Channels::of(alloc, catalogue.history(), &messages)?;
-    let channels = shared(alloc, rounds, held)?;
-    catalogue.keep_transit(line, messages);
-    Ok(channels)
-}
-
 /// What is in transit at the line where this process stands now, and each other one at its check of
 /// the open round.
 ///
 /// If nothing was sent or received since the checks of the last round, these are that round's
-/// channels, and finding them takes one step for each process. A line is a large value, so this
-/// stands apart from the function that each check calls.
+/// channels, and finding them takes one step for each process. Else, if the last round has the same
+/// in transit, both rounds share it. The catalogue keeps it too, so that the next count looks at no
+/// other message that was sent before this line. A line is a large value, so this stands apart from
+/// the function that each check calls.
 #[inline(never)]
 fn count_at_last(
     alloc: Global,
@@ -151,10 +102,18 @@ fn count_at_last(
     ensures rooms { catalogue.new.rooms ≡ catalogue.old.rooms }
 {
     let line = turning.line(at);
-    if let Some(channels) = channels_still(catalogue.history(), rounds, &line)? {
-        return Ok(channels);
+    if let Some(round) = rounds.last() {
+        if let Some(channels) = round.counted() {
+            if is_still_at(catalogue.history(), round, &line) {
+                return channels.share();
+            }
+        }
     }
-    count_anew(alloc, catalogue, rounds, &line)
+    let messages = catalogue.transit(alloc, &line)?;
+    let held = Channels::of(alloc, catalogue.history(), &messages)?;
+    let channels = shared(alloc, rounds, held)?;
+    catalogue.keep_transit(&line, messages);
+    Ok(channels)
 }
 
 /// What is in transit at the checks of the open round, if a check of this process now completes it.

@@ -47,20 +47,6 @@ impl LinkRow {
         })
     }
 
-    /// Puts an item at the end of the link to a process.
-    fn push(&mut self, to: ProcId, item: LinkItem) -> Result<(), AllocError>
-        requires { to < length self.old }
-        ensures ok { OnOk result
-            (items_held self.new
-            ≡ slice_set (items_held self.old) to
-            (slice_index_or (items_held self.old) to [] ++ item ∷ [])) }
-        ensures err { OnErr result (items_held self.new ≡ items_held self.old) }
-    {
-        self.used = true;
-        let queue = &mut self.queues[to.get() as usize];
-        queue.push(item)
-    }
-
     /// Makes room for one more item on each link.
     fn reserve(&mut self) -> Result<(), AllocError>
         ensures same { items_held self.new ≡ items_held self.old }
@@ -220,7 +206,9 @@ impl Links {
         ensures err { OnErr result (self.new ≡ self.old) }
     {
         let row = &mut self.rows[from.get() as usize];
-        row.push(to, LinkItem::of(item))
+        row.used = true;
+        let queue = &mut row.queues[to.get() as usize];
+        queue.push(LinkItem::of(item))
     }
 
     /// Puts an item at the end of each link from a process to another, or on none if memory runs

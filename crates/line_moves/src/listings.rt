@@ -1,32 +1,13 @@
 //! The list of the rounds that are completed.
-ghost use Rattle.std.specs.Prelude.{◌≡◌, ◌<◌, ◌≤◌, ◌-◌, ◌++◌, ◌∷◌, ℕ, [], true, false, filter};
-ghost use Rattle.std.specs.Prelude.{length, slice_index_or, OnOk};
-ghost use Rattle.line_moves.specs.Listed.{ListedRound, stays};
+ghost use Rattle.std.specs.Prelude.{◌≡◌, ◌<◌, ◌-◌, ◌++◌, ◌∷◌, [], true, false, filter};
+ghost use Rattle.std.specs.Prelude.{OnOk};
+ghost use Rattle.line_moves.specs.Listed.{stays};
 ghost use Rattle.line_moves.specs.Listings.{Climb};
 
 use crate::rounds::Round;
 use line_names::Line;
 use std::alloc::{AllocError, Global};
 use std::marker::Model;
-
-/// How many rounds there are up to the last one none of whose checks a restart at the line cuts. It
-/// looks at that one and at those after it.
-fn staying(rounds: &[Round], line: &Line) -> usize
-    ensures within { result ≤ length rounds.now }
-    ensures last { (d : ListedRound) → 0 < result
-        → stays line.now (slice_index_or rounds.now (result - 1) d) ≡ true }
-    ensures cut { (i : ℕ) (d : ListedRound) → result ≤ i → i < length rounds.now
-        → stays line.now (slice_index_or rounds.now i d) ≡ false }
-{
-    let mut end = rounds.len();
-    'cut: while end > 0 {
-        if rounds[end - 1].stays(line) {
-            return end;
-        }
-        end -= 1;
-    }
-    0
-}
 
 /// Whether the rounds climb with one more; `climbs` says whether they do without it.
 fn climb_on(rounds: &[Round], climbs: bool, round: &Round) -> bool
@@ -112,7 +93,10 @@ impl Listing {
             self.rounds.retain(|round| round.stays(line));
             return;
         }
-        let end = staying(&self.rounds, line);
+        let mut end = self.rounds.len();
+        'cut: while end > 0 && !self.rounds[end - 1].stays(line) {
+            end -= 1;
+        }
         self.rounds.truncate(end);
     }
 }

@@ -9,10 +9,9 @@ ghost use Rattle.line_tape.specs.declared.events.Event.TheVariants.{Send as Send
 ghost use Rattle.line_tape.specs.declared.events.Event.TheVariants.{Recv as RecvEvent};
 ghost use Rattle.line_tape.specs.declared.events.Event.TheVariants.{Check as CheckEvent};
 ghost use Rattle.line_tape.specs.declared.items.Item.TheVariants.{Message};
-ghost use Rattle.line_tape.specs.Event.{NamesBelow, HasLongState, Holds};
+ghost use Rattle.line_tape.specs.Event.{Holds};
 ghost use Rattle.line_tape.specs.History.{tape_at, incarnation_at, with_event};
 ghost use Rattle.line_tape.specs.Spent.{next_name};
-ghost use Rattle.line_catalogue.specs.Agreement.{AgreesNext};
 ghost use Rattle.line_catalogue.specs.Views.{catalogue_room_at};
 ghost use Rattle.line_steps.specs.declared.modes.Mode.TheVariants.{Fifo};
 ghost use Rattle.line_moves.specs.Moves.{next_check};
@@ -26,21 +25,6 @@ use line_catalogue::Catalogue;
 use line_names::{MOST_BODY, MsgName, ProcId};
 use line_tape::{Event, Item, MOST_EVENTS, MOST_STATE, State};
 use std::alloc::AllocError;
-
-/// Adds an event to a tape that has room for it.
-pub(crate) fn add_event(catalogue: &mut Catalogue, p: ProcId, event: Event)
-    requires process { p < length catalogue.old.processes }
-    requires named { NamesBelow (length catalogue.old.processes) event }
-    requires short { HasLongState event → ⊥ }
-    requires few { length (tape_at catalogue.old.processes p) < MOST_EVENTS }
-    requires agrees { AgreesNext catalogue.old.processes p event }
-    requires room { 0 < catalogue_room_at catalogue.old p }
-    ensures processes { catalogue.new.processes ≡ with_event catalogue.old.processes p event }
-    ensures marks { catalogue.new.marks ≡ catalogue.old.marks }
-    ensures spent { catalogue_room_at catalogue.old p ≤ catalogue_room_at catalogue.new p + 1 }
-{
-    catalogue.append(p, event);
-}
 
 /// Sends a message and returns its name: the event goes on the sender's tape, and the item to the
 /// end of the link.
@@ -164,6 +148,6 @@ pub fn add_check(catalogue: &mut Catalogue, at: ProcId, state: State) -> Result<
 {
     catalogue.reserve(at, 1)?;
     let check = catalogue.history().tape(at).checks() + 1;
-    add_event(catalogue, at, Event::Check { state, round: None });
+    catalogue.append(at, Event::Check { state, round: None });
     Ok(check)
 }

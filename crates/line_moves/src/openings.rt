@@ -7,7 +7,6 @@ ghost use Rattle.line_tape.specs.declared.events.Event.TheVariants.{Mark as Mark
 ghost use Rattle.line_tape.specs.History.{tape_at, with_event};
 ghost use Rattle.line_tape.specs.Rounds.{has_check_of, is_completed_fifo};
 ghost use Rattle.line_steps.specs.declared.modes.Mode.TheVariants.{Fifo};
-ghost use Rattle.line_moves.specs.Listed.{listed_round};
 ghost use Rattle.line_moves.specs.Openings.{left_open, marker_at, newly_closed, open_number};
 ghost use Rattle.line_moves.specs.Openings.{AreMarkers, IsFresh, IsOnlyOpen, IsRecording, OpenView};
 ghost use Rattle.line_moves.specs.Fates.{is_forced};
@@ -88,15 +87,6 @@ impl OpenRound {
         ensures { result ≡ self.now.number }
     {
         self.turning.number()
-    }
-
-    /// Whether a process has its check of the round.
-    pub(crate) fn has_check(&self, history: &History, p: ProcId) -> bool
-        requires p { p < length history.now.processes }
-        requires recording { IsRecording history.now.processes self.now }
-        ensures { result ≡ has_check_of self.now.number (tape_at history.now.processes p) }
-    {
-        self.turning.has_check(p)
     }
 
     /// Process `p` takes its check of the round before any marker has come.
@@ -193,16 +183,6 @@ impl OpenRound {
         }
         true
     }
-
-    /// The round, which is completed, as it is listed. It takes no memory, and looks at each
-    /// channel.
-    pub(crate) fn completed(self, alloc: Global, history: &History) -> Round
-        requires recording { IsRecording history.now.processes self }
-        requires completed { is_completed_fifo history.now.processes self.number ≡ true }
-        ensures { result ≡ listed_round Fifo history.now.processes self.number }
-    {
-        Round::of_markers(alloc, self.turning, self.markers, history)
-    }
 }
 
 /// Whether the marker of a round has a process take its check of it. It looks at no event.
@@ -220,7 +200,7 @@ pub fn is_forced(
     ensures { result ≡ is_forced history.now.processes to round }
 {
     match running {
-        Some(running) => running.number() == round && !running.has_check(history, to),
+        Some(running) => running.number() == round && !running.turning.has_check(to),
         None => false,
     }
 }
@@ -319,7 +299,9 @@ fn list_round(
     ensures left { running.new ≡ None }
 {
     match running.take() {
-        Some(round) => rounds.push(round.completed(alloc, history)),
+        Some(round) => {
+            rounds.push(Round::of_markers(alloc, round.turning, round.markers, history));
+        }
         None => unreachable!(),
     }
 }

@@ -59,19 +59,6 @@ fn names_of(noted: &[Noted], from: ProcId) -> &[MsgName]
     }
 }
 
-/// Whether no message is noted. It looks at each list.
-fn are_empty(noted: &[Noted]) -> bool
-    ensures { IsTrue result ↔ ((q : ℕ) → slice_index_or noted.now q [] ≡ []) }
-{
-    'each: for q in 0..noted.len() {
-        let own = &noted[q];
-        if !own.names.is_empty() {
-            return false;
-        }
-    }
-    true
-}
-
 /// Whether the marker of each of `n` processes but this one has come.
 fn have_come(closed: &ProcSet, n: u32, me: ProcId) -> bool
     requires { n ≤ MOST_PROCESSES }
@@ -242,7 +229,13 @@ impl Recorder {
         ensures { IsTrue result ↔ ((round p : ℕ)
             → unwrap_or (messages_by (round_of self.now.rounds round) p) [] ≡ []) }
     {
-        are_empty(&self.noted)
+        'each: for q in 0..self.noted.len() {
+            let own = &self.noted[q];
+            if !own.names.is_empty() {
+                return false;
+            }
+        }
+        true
     }
 
     /// Whether the round is recorded and its marker has come from each other process. It looks at

@@ -1,11 +1,10 @@
 //! What the links hold after a restart at a line.
-ghost use Rattle.std.specs.Prelude.{◌≡◌, ◌<◌, ◌≤◌, ◌++◌, ℕ, [], List, filter, map, length, OnOk};
+ghost use Rattle.std.specs.Prelude.{◌≡◌, ◌<◌, ◌++◌, ℕ, filter, map, length, OnOk};
 ghost use Rattle.std.specs.Prelude.{OnErr};
 ghost use Rattle.line_tape.specs.declared.items.Item.TheVariants.{Message};
-ghost use Rattle.line_tape.specs.History.{Process};
 ghost use Rattle.line_tape.specs.Transit.{goes_between, in_transit, in_transit_between};
 ghost use Rattle.line_turns.specs.Tables.{between};
-ghost use Rattle.line_moves.specs.Rooms.{items_held, queue_at, AreCountedOnQueues, AreUncounted};
+ghost use Rattle.line_moves.specs.Rooms.{items_held, AreCountedOnQueues, AreUncounted};
 ghost use Rattle.line_moves.specs.Rooms.{HaveRoom};
 ghost use Rattle.line_moves.specs.Worlds.{AreQueues};
 
@@ -55,20 +54,6 @@ fn count_messages(
     Ok(())
 }
 
-/// Takes all items off each link.
-fn clear_rows(rows: &mut Vec<LinkRow>)
-    ensures empty { (p q : ℕ) → between (map items_held rows.new.items) p q ≡ [] }
-    ensures queued { (history : List Process) → AreQueues history (map items_held rows.old.items)
-        → AreQueues history (map items_held rows.new.items) }
-    ensures room { (p q : ℕ)
-        → (queue_at rows.old.items p q).room ≤ (queue_at rows.new.items p q).room }
-{
-    for p in 0..rows.len() {
-        let row = &mut rows[p];
-        row.clear();
-    }
-}
-
 /// Puts each message at the end of the link to the process that its send names, in order, in room
 /// made for it.
 fn put_messages(history: &History, messages: &[MsgName], rows: &mut Vec<LinkRow>)
@@ -111,7 +96,10 @@ pub fn restart_links(
 {
     count_none(history, messages, &mut links.rows);
     count_messages(history, messages, &mut links.rows)?;
-    clear_rows(&mut links.rows);
+    for p in 0..links.rows.len() {
+        let row = &mut links.rows[p];
+        row.clear();
+    }
     put_messages(history, messages, &mut links.rows);
     Ok(())
 }

@@ -1,36 +1,15 @@
 //! What each process goes on from after a restart at a line.
 ghost use Rattle.std.specs.Prelude.{◌≡◌, ◌<◌, length, map, IfOk};
-ghost use Rattle.line_tape.specs.History.{Process, process_at, tape_at, incarnation_at};
+ghost use Rattle.line_tape.specs.History.{Process, process_at, incarnation_at};
 ghost use Rattle.line_tape.specs.Line.{IsLine};
 ghost use Rattle.line_tape.specs.Restart.{restarted_history, restarted_incarnation, HasFurther};
 ghost use Rattle.line_tape.specs.Restart.{HaveFurther};
 ghost use Rattle.line_names.specs.Lines.{choice_at};
-ghost use Rattle.line_moves.specs.Restarts.{restored_state, restored_states};
+ghost use Rattle.line_moves.specs.Restarts.{restored_states};
 
 use line_names::{Choice, Line, ProcId};
 use line_tape::{History, State};
 use std::alloc::{AllocError, Global};
-
-/// The bytes that a process goes on from at its choice of a line.
-fn restored(
-    alloc: Global,
-    history: &History,
-    line: &Line,
-    p: ProcId,
-) -> Result<Option<State>, AllocError>
-    requires process { p < length history.now.processes }
-    requires line { IsLine history.now.processes line.now }
-    ensures { IfOk result
-        (λ state. state ≡ restored_state (tape_at history.now.processes p) (choice_at line.now p)) }
-{
-    match line.at(p) {
-        Choice::Check(check) => {
-            let bytes = Vec::from_slice(alloc, history.tape(p).state(check))?;
-            Ok(Some(State::of(bytes)))
-        }
-        Choice::Now => Ok(None),
-    }
-}
 
 /// The bytes that each process goes on from: a copy of the state of its check, or none if it stays
 /// where it stands.
@@ -47,7 +26,12 @@ pub fn restored_states(
     let mut states = Vec::with_capacity(alloc, n as usize)?;
     for q in 0..n {
         let p = ProcId::try_new(q, n).unwrap();
-        let state = restored(alloc, history, line, p)?;
+        let state = match line.at(p) {
+            Choice::Check(check) => {
+                Some(State::of(Vec::from_slice(alloc, history.tape(p).state(check))?))
+            }
+            Choice::Now => None,
+        };
         states.push_reserved(state);
     }
     Ok(states)

@@ -25,7 +25,6 @@ ghost use Rattle.line_moves.specs.Worlds.{IsWorld};
 use crate::counts::count_channels;
 use crate::links::Links;
 use crate::listings::Listing;
-use crate::moves::add_event;
 use crate::openings::{OpenRound, hear};
 use crate::rounds::Round;
 use line_catalogue::Catalogue;
@@ -72,7 +71,7 @@ pub fn begin_round(
     let check = catalogue.history().tape(at).checks() + 1;
     running.begin(catalogue.history(), at);
     let round = Some(last + 1);
-    add_event(catalogue, at, Event::Check { state, round });
+    catalogue.append(at, Event::Check { state, round });
     Ok((running, check))
 }
 
@@ -113,7 +112,7 @@ fn force_round(
     links.drop_first(from, to);
     running.force(catalogue.history(), from, to);
     let round = Some(number);
-    add_event(catalogue, to, Event::Check { state, round });
+    catalogue.append(to, Event::Check { state, round });
     catalogue.append_mark(to, from, number);
     Ok(())
 }
@@ -216,7 +215,7 @@ fn take_turn(
     colours.turn(at, number, sends)?;
     turning.check(at, check);
     let round = Some(number);
-    add_event(catalogue, at, Event::Check { state, round });
+    catalogue.append(at, Event::Check { state, round });
     Ok((check, channels))
 }
 

@@ -1,7 +1,7 @@
 //! A completed round as it is listed: of markers (Chandy and Lamport, ACM TOCS 3(1), 1985) or of
 //! colours (Lai and Yang, Information Processing Letters 25(3), 1987).
-ghost use Rattle.std.specs.Prelude.{◌≡◌, ◌≢◌, ◌<◌, ◌≤◌, ℕ, [], List, length, true, false, IfOk};
-ghost use Rattle.std.specs.Prelude.{Some, All};
+ghost use Rattle.std.specs.Prelude.{◌≡◌, ◌≢◌, ◌<◌, ◌≤◌, ℕ, List, length, true};
+ghost use Rattle.std.specs.Prelude.{All, IfSome};
 ghost use Rattle.line_tape.specs.History.{Process};
 ghost use Rattle.line_tape.specs.Restart.{is_kept};
 ghost use Rattle.line_tape.specs.Colours.{is_completed_unordered};
@@ -10,17 +10,16 @@ ghost use Rattle.line_turns.specs.Turning.{IsTurning};
 ghost use Rattle.line_steps.specs.declared.modes.Mode.TheVariants.{Fifo, Unordered};
 ghost use Rattle.line_moves.specs.Listed.{check_in, channel_in, listed_round, stays, IsSnapshotOf};
 ghost use Rattle.line_moves.specs.Listings.{IsBelow};
-ghost use Rattle.line_marker.specs.Recording.{MarkerView, messages_by, round_of};
-ghost use Rattle.std.specs.Option.{unwrap_or};
+ghost use Rattle.line_marker.specs.Recording.{MarkerView};
 ghost use Rattle.line_moves.specs.Openings.{kept_channel, recorded_channel, recording_of};
-ghost use Rattle.line_moves.specs.Openings.{AreByProcess, AreFoundAt, AreInTransit, AreMarkers};
+ghost use Rattle.line_moves.specs.Openings.{AreByProcess, AreInTransit, AreMarkers};
 ghost use Rattle.line_moves.specs.Openings.{IsRecording};
 
 use crate::recorders::Recorder;
 use line_names::{Choice, Line, MOST_PROCESSES, MsgName, ProcId};
 use line_tape::History;
 use line_turns::{SharedChannels, Turning};
-use std::alloc::{AllocError, Global};
+use std::alloc::Global;
 use std::marker::Model;
 
 /// A completed round: a check of each process, which make a consistent line, and what was in
@@ -136,19 +135,12 @@ impl Round {
         }
     }
 
-    /// Its channels, shared with one more holder; none where links keep their order.
-    pub(crate) fn share(&self) -> Result<Option<SharedChannels>, AllocError>
-        ensures { (history : List Process) → IsSnapshotOf history self.now
-            → IfOk result (AreFoundAt history (check_line self.now.checks)) }
-    {
-        match &self.counted {
-            Some(channels) => Ok(Some(channels.share()?)),
-            None => Ok(None),
-        }
-    }
-
     /// What was in transit; none where links keep their order.
-    pub(crate) fn counted(&self) -> Option<&SharedChannels> {
+    pub(crate) fn counted(&self) -> Option<&SharedChannels>
+        ensures { (history : List Process) → IsSnapshotOf history self.now
+            → IfSome result
+            (λ channels. AreInTransit history (check_line self.now.checks) channels.now) }
+    {
         self.counted.as_ref()
     }
 

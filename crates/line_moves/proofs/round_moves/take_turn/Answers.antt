@@ -22,8 +22,8 @@ count_channels-requires-clause-first c =
 pub count_channels-requires-clause-turning : goal.count_channels-requires-clause-turning
 count_channels-requires-clause-turning c = subst (λ (h : List Process). IsTurning h c.args.turning.now) (sym c.in_ok-reserve.ensures.processes) c.requires.turning
 
-pub add_event-requires-clause-agrees : goal.add_event-requires-clause-agrees
-add_event-requires-clause-agrees c =
+pub append-requires-clause-agrees : goal.append-requires-clause-agrees
+append-requires-clause-agrees c =
     let kept : c.count_channels.new.catalogue.processes ≡ c.args.catalogue.now.processes = c.in_ok-channels.ensures.processes ∙ c.in_ok-reserve.ensures.processes in
     AgreesNext-check c.count_channels.new.catalogue.processes c.history.ensures.agrees c.args.at (omega (arith, c.requires.at, ap (λ (h : List Process). length h) kept)) c.of-state.result (Some c.number-number.result)
 
@@ -39,9 +39,9 @@ returns-clause-channels c =
     let e : Event = Check state (Some r) in
     let told : Option (List (List (List MsgName))) = c.in_ok-channels.channels in
     let kept : c.count_channels.new.catalogue.processes ≡ history = c.in_ok-channels.ensures.processes ∙ c.in_ok-reserve.ensures.processes in
-    let done : c.add_event.new.catalogue.processes ≡ with_event history at e =
-    c.add_event.ensures.processes ∙ ap (λ (h : List Process). with_event h at (Check state (Some c.number-number.result))) kept
+    let done : c.append.new.self.processes ≡ with_event history at e =
+    c.append.ensures.processes ∙ ap (λ (h : List Process). with_event h at (Check state (Some c.number-number.result))) kept
     ∙ ap (λ (v : ℕ). with_event history at (Check state (Some v))) c.number-number.ensures in
-    subst (λ (v : ℕ). IsCountedAtRound c.add_event.new.catalogue.processes v told) (sym c.check.ensures.number)
+    subst (λ (v : ℕ). IsCountedAtRound c.append.new.self.processes v told) (sym c.check.ensures.number)
     (subst (λ (h : List Process). IsCountedAtRound h r told) (sym done)
     (subst (λ (h : List Process). IsCountedAtRound (with_event h at e) r told) c.in_ok-reserve.ensures.processes (c.in_ok-channels.ensures.channels state)))

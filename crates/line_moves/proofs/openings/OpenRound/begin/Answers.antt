@@ -1,5 +1,5 @@
 -- Its channels are open, and nothing is on them.
-use Rattle.std.proofs.Common.{◌≡◌, ℕ, ◌+◌, false, List, length, get_or, set, Some, sym, ap, ◌∙◌, subst}
+use Rattle.std.proofs.Common.{◌≡◌, ◌<◌, ℕ, ◌+◌, false, List, length, get_or, set, Some, sym, ap, ◌∙◌, subst, arith}
 use Rattle.line_marker.specs.Recording.{MarkerView, with_round}
 use Rattle.line_tape.specs.declared.events.Event.TheVariants.{Check}
 use Rattle.line_tape.specs.Event.{checks}
@@ -9,6 +9,7 @@ use Rattle.line_turns.specs.Turning.{TurningView, IsTurning}
 use Rattle.line_moves.specs.Openings.{OpenView, marker_at, AreMarkers, IsRecording}
 use Rattle.line_moves.proofs.OpenFacts.{IsRecording-begun, own_marker}
 use Rattle.line_moves.proofs.RecordingLemmas.{recorded_none}
+use Rattle.line_moves.proofs.ToComeLemmas.{kept-begun}
 use Rattle.line_moves.proofs.openings.OpenRound.begin.Goals as goal
 
 pub returns-clause-recording : goal.returns-clause-recording
@@ -47,3 +48,13 @@ begin-requires c =
     let own : old ≡ marker_at markers p = own_marker history p turning markers c.requires.p c.self.invariant.0 is old (c.index_mut.ensures.value ∙ ap (λ (i : ℕ). get_or markers i old) c.get.ensures.value) in
     let none : has_check_of r (tape_at history p) ≡ false = ap (λ (v : ℕ). has_check_of v (tape_at history p)) number ∙ c.requires.first in
     ap (λ (m : MarkerView). m.rounds) own ∙ recorded_none (length history) p r (tape_at history p) (marker_at markers p) (is.markers p c.requires.p) none
+
+pub invariant_of-self : goal.invariant_of-self
+invariant_of-self c =
+    let turning : TurningView = c.self.inside.turning in
+    let markers : List MarkerView = c.self.inside.markers.items in
+    let old : MarkerView = c.index_mut.result.now in
+    let new : MarkerView = c.begin.new.self in
+    let within : c.get.result < length markers = omega (arith, c.get.ensures.value, c.requires.p, c.self.invariant.0.count, c.requires.recording.turning.count, ap (λ (v : OpenView). length v.checks) c.self.view_is) in
+    kept-begun (length turning.checks) markers c.self.invariant.0 c.get.result old new within c.index_mut.ensures.value c.begin.ensures.same c.self.inside.to_come turning.number c.self.invariant.1
+    (length c.check.new.self.checks) c.check.new.self.number c.check.ensures.count c.check.ensures.number old.n c.number-number.result c.begin.ensures.begun

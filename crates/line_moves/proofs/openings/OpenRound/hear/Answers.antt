@@ -1,5 +1,5 @@
 -- The channel from the sender is closed, now or before.
-use Rattle.std.proofs.Common.{◌≡◌, ℕ, true, false, List, Option, Some, length, get_or, set, sym, ap, ◌∙◌, subst}
+use Rattle.std.proofs.Common.{◌≡◌, ◌<◌, ℕ, true, false, List, Option, Some, length, get_or, set, refl, sym, ap, ◌∙◌, subst, arith}
 use Rattle.std.specs.Prelude.{IsTrue, MatchOption}
 use Rattle.std.proofs.lemmas.Bool.{both_ways, true_from_ne_false}
 use Rattle.line_marker.specs.Recording.{MarkerView, RecordedRound, channel_at, round_of, with_marker}
@@ -10,6 +10,7 @@ use Rattle.line_turns.specs.Turning.{TurningView}
 use Rattle.line_moves.specs.Openings.{OpenView, marker_at, AreMarkers, IsRecording}
 use Rattle.line_moves.proofs.OpenFacts.{IsRecording-heard, IsRecording-repeated, own_marker}
 use Rattle.line_moves.proofs.RecordingLemmas.{recorded_round, recorded_there}
+use Rattle.line_moves.proofs.ToComeLemmas.{kept-heard, AreMarkers-set, AreToCome-same}
 use Rattle.line_moves.proofs.openings.OpenRound.hear.Goals as goal
 
 pub returns-then-close_channel-clause-recording : goal.returns-then-close_channel-clause-recording
@@ -63,3 +64,24 @@ returns-else-close_channel-clause-recording c =
     (IsRecording-repeated history p turning markers c.requires.p are is from c.requires.from c.requires.other begun c.get.result new c.get.ensures.value floor
     (rounds ∙ ap (λ (m : MarkerView). m.rounds) own)
     (subst (λ (o : Option RecordedRound). MatchOption o ⊥ (λ v. IsTrue (channel_at v from).is_closed)) (sym (recorded_there (length history) p r (tape_at history p) (marker_at markers p).rounds round)) closed))
+
+pub invariant_of-self : goal.invariant_of-self
+invariant_of-self c =
+    let turning : TurningView = c.self.inside.turning in
+    let markers : List MarkerView = c.self.inside.markers.items in
+    let old : MarkerView = c.index_mut.result.now in
+    let new : MarkerView = c.close_channel.new.self in
+    let within : c.get.result < length markers = omega (arith, c.get.ensures.value, c.requires.p, c.self.invariant.0.count, c.requires.recording.turning.count, ap (λ (v : OpenView). length v.checks) c.self.view_is) in
+    kept-heard (length turning.checks) markers c.self.invariant.0 c.get.result old new within c.index_mut.ensures.value c.close_channel.ensures.same c.self.inside.to_come turning.number c.self.invariant.1
+    (length turning.checks) turning.number refl refl c.saturating_sub-others.result c.args.from c.number-number.result c.saturating_sub-others.ensures (c.close_channel.ensures.closed c.if-close_channel.true)
+
+pub invariant_of-self-else-close_channel : goal.invariant_of-self-else-close_channel
+invariant_of-self-else-close_channel c =
+    let turning : TurningView = c.self.inside.turning in
+    let markers : List MarkerView = c.self.inside.markers.items in
+    let old : MarkerView = c.index_mut.result.now in
+    let new : MarkerView = c.close_channel.new.self in
+    let within : c.get.result < length markers = omega (arith, c.get.ensures.value, c.requires.p, c.self.invariant.0.count, c.requires.recording.turning.count, ap (λ (v : OpenView). length v.checks) c.self.view_is) in (
+      AreMarkers-set (length turning.checks) markers c.self.invariant.0 c.get.result old new within c.index_mut.ensures.value c.close_channel.ensures.same,
+      AreToCome-same (length turning.checks) markers c.self.invariant.0 c.get.result old new within c.index_mut.ensures.value c.close_channel.ensures.same c.self.inside.to_come turning.number c.self.invariant.1 (c.close_channel.ensures.unchanged c.if-close_channel.false),
+    )
