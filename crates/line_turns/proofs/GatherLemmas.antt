@@ -1,10 +1,10 @@
 -- Messages in transit, as they are gathered by receiver and kept.
-use Rattle.std.proofs.Common.{◌≡◌, ◌≢◌, ℕ, ◌+◌, ◌<◌, ◌≤◌, Bool, true, false, cond, List, [], ◌∷◌, ◌++◌, length, take, get_or, set, filter, replicate, Option, Some, None, refl, sym, ap, ◌∙◌, subst, arith, inl, inr}
+use Rattle.std.proofs.Common.{◌≡◌, ◌≢◌, ℕ, ◌+◌, ◌<◌, ◌≤◌, Bool, true, false, cond, List, [], ◌∷◌, ◌++◌, length, take, get_or, set, filter, Option, Some, None, refl, sym, ap, ◌∙◌, subst, arith, inl, inr}
 use Rattle.std.specs.Prelude.{◌==◌, ◌&&◌}
 use Rattle.std.specs.List.{All}
 use Rattle.std.specs.Option.{option_eq}
 use Rattle.std.proofs.lemmas.Bool.{cases_eq, eq-eqb, eqb-true, false≢true, ne_eqb}
-use Rattle.std.proofs.lemmas.List.{append-nil, length-replicate, length-set, get_or-replicate, get_or-set_same, get_or-set_other, get_or_default}
+use Rattle.std.proofs.lemmas.List.{append-nil, length-set, get_or-set_same, get_or-set_other, get_or_default}
 use Rattle.std.proofs.lemmas.List.Elements.{All-weaker, All-push, filter_more, filter_passes}
 use Rattle.line_names.specs.declared.choices.Choice.{Choice}
 use Rattle.line_names.specs.declared.messages.MsgName.{MsgName}
@@ -37,13 +37,6 @@ found_addressee None q h = absurd (false≢true h)
 found_addressee (Some to) q h = ap (λ (v : ℕ). Some v) (eqb-true to q h)
 
 module _ (history : List Process) (messages : List MsgName) where
-  -- nothing is gathered yet
-  pub AreGathered-none : (n : ℕ) → n ≡ length history → AreByAddressee history [] (replicate n [])
-  AreGathered-none n same = record {
-    count = length-replicate n [] ∙ same;
-    each = λ q within. get_or-replicate n q [] [] (omega (arith, within, same));
-  }
-
   module _ (i : ℕ) (rows : List (List MsgName)) (message : MsgName) (within : i < length messages)
       (is : message ≡ get_or messages i message)
       (before : AreByAddressee history (take i messages) rows) where
@@ -140,17 +133,6 @@ pub record AreKept (n : ℕ) (rows : List (List MsgName)) (i : ℕ) (inboxes : L
     pub held : (p q : ℕ) → q < i → messages_from p (held_for inboxes q) ≡ messages_from p (get_or rows q [])
 
 module _ (n : ℕ) (rows : List (List MsgName)) where
-  pub AreKept-none : AreKept n rows 0 []
-  AreKept-none = record {
-    are = record {
-      ascend = λ i j d below within. absurd (omega (arith, within));
-      each =
-          λ k d within. absurd (omega (arith, within));
-    };
-    below = λ k d within. absurd (omega (arith, within));
-    held = λ p q below. absurd (omega (arith, below));
-  }
-
   module _ (i : ℕ) (inboxes : List InboxView) (before : AreKept n rows i inboxes) where
     lower : All (λ (inbox : InboxView). inbox.to < i + 1) inboxes
     lower = All-weaker (λ (inbox : InboxView). inbox.to < i)
