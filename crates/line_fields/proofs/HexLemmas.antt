@@ -1,6 +1,6 @@
 -- Reading bytes pair by pair.
-use Rattle.std.proofs.Common.{◌≡◌, ℕ, ◌+◌, ◌*◌, List, [], ◌∷◌, ◌++◌, Result, Ok, Err, refl, sym, ap, subst, ◌∙◌, append_assoc, ◌≤◌, ◌<◌, ◌-◌, ◌==◌, true, false, length, take, drop, get_or, arith, eqb-true}
-use Rattle.std.proofs.lemmas.List.{append-nil, drop_more}
+use Rattle.std.proofs.Common.{◌≡◌, ℕ, ◌+◌, ◌*◌, List, [], ◌∷◌, ◌++◌, Result, Ok, Err, refl, sym, ap, subst, ◌∙◌, append_assoc, ◌≤◌, ◌<◌, ◌-◌, ◌==◌, true, false, length, take, drop, get_or, arith, eqb-true, length-append}
+use Rattle.std.proofs.lemmas.List.{append-nil, drop_more, take-append-le, take_all}
 use Rattle.line_fields.proofs.TextLemmas.{rest_is}
 use Rattle.line_fields.specs.declared.faults.Fault.{Fault}
 use Rattle.line_fields.specs.declared.faults.Fault.TheVariants.{BadNumber}
@@ -68,3 +68,19 @@ odd_at front (c ∷ d ∷ rest) h k = absurd (omega arith)
 pub end_at : (front xs : List ℕ) → (length xs == 0) ≡ true → with_front front (hex xs) ≡ Ok front
 end_at front [] h = hex_end front
 end_at front (c ∷ rest) h = let none = eqb-true (length (c ∷ rest)) 0 h in absurd (omega arith)
+
+-- a text was read as far as this rest, behind what a list had, which was so long
+pub record IsHexTo (long : ℕ) (old text now rest : List ℕ) : Type 0 where
+  pub same : with_front now (hex rest) ≡ with_front old (hex text)
+  pub longer : long ≤ length now
+  pub kept : take long now ≡ old
+
+pub hex_begins : (long : ℕ) (old text : List ℕ) → long ≡ length old → IsHexTo long old text old text
+hex_begins long old text is = record { same = refl; longer = omega (arith, is); kept = take_all long old (omega (arith, is)) }
+
+pub hex_on : (long : ℕ) (old text now rest bytes next : List ℕ) → with_front now (hex rest) ≡ with_front (now ++ bytes) (hex next) → IsHexTo long old text now rest → IsHexTo long old text (now ++ bytes) next
+hex_on long old text now rest bytes next more h = record {
+  same = sym more ∙ h.same;
+  longer = omega (arith, h.longer, length-append now bytes);
+  kept = take-append-le long now bytes h.longer ∙ h.kept;
+}

@@ -98,13 +98,28 @@ num_bad least most text h =
 below_ten : (d : ℕ) → 0 * 10 + (d - 48) ≡ d - 48
 below_ten d = omega arith
 
-pub num_digit : (least most d : ℕ) → is_ascii_digit d ≡ true → d - 48 ≤ most → num least most (d ∷ []) ≡ (if nat_le least (d - 48) then Ok (d - 48) else Err BadNumber)
-num_digit least most d h le =
+pub num_digit : (least most : ℕ) (xs : List ℕ) → length xs ≡ 1 → is_ascii_digit (get_or xs 0 0) ≡ true → get_or xs 0 0 - 48 ≤ most → num least most xs ≡ (if nat_le least (get_or xs 0 0 - 48) then Ok (get_or xs 0 0 - 48) else Err BadNumber)
+num_digit least most [] one h le = cc one
+num_digit least most (d ∷ []) one h le =
     num_is least most (d ∷ []) refl ∙ num_more least most 0 d [] h ∙ ap (λ (n : ℕ). num_after least most n []) (below_ten d) ∙ num_end least most (d - 48) le
+num_digit least most (d ∷ e ∷ rest) one h le = absurd (omega (arith, one))
 
-pub num_digit_large : (least most d : ℕ) → is_ascii_digit d ≡ true → most < d - 48 → num least most (d ∷ []) ≡ Err BadNumber
-num_digit_large least most d h lt =
+num_small : (least most before : ℕ) → before < least → num_after least most before [] ≡ Err BadNumber
+num_small least most before lt = rw (lt-leb least before lt) refl
+
+pub num_digit_small : (least most : ℕ) (xs : List ℕ) → length xs ≡ 1 → is_ascii_digit (get_or xs 0 0) ≡ true → get_or xs 0 0 - 48 < least → num least most xs ≡ Err BadNumber
+num_digit_small least most [] one h lt = cc one
+num_digit_small least most (d ∷ []) one h lt =
+    num_is least most (d ∷ []) refl ∙ num_more least most 0 d [] h ∙ ap (λ (n : ℕ). num_after least most n []) (below_ten d) ∙ num_small least most (d - 48) lt
+num_digit_small least most (d ∷ e ∷ rest) one h lt = absurd (omega (arith, one))
+
+pub num_digit_large : (least most : ℕ) (xs : List ℕ) → length xs ≡ 1 → is_ascii_digit (get_or xs 0 0) ≡ true → most < get_or xs 0 0 - 48 → num least most xs ≡ Err BadNumber
+num_digit_large least most [] one h lt = cc one
+num_digit_large least most (d ∷ []) one h lt =
     num_is least most (d ∷ []) refl ∙ num_more least most 0 d [] h ∙ ap (λ (n : ℕ). num_after least most n []) (below_ten d) ∙ num_large least most (d - 48) [] lt
+num_digit_large least most (d ∷ e ∷ rest) one h lt = absurd (omega (arith, one))
 
-pub num_one_bad : (least most d : ℕ) → is_ascii_digit d ≡ false → num least most (d ∷ []) ≡ Err BadNumber
-num_one_bad least most d h = num_is least most (d ∷ []) refl ∙ num_no_digit least most 0 d [] h
+pub num_one_bad : (least most : ℕ) (xs : List ℕ) → length xs ≡ 1 → is_ascii_digit (get_or xs 0 0) ≡ false → num least most xs ≡ Err BadNumber
+num_one_bad least most [] one h = cc one
+num_one_bad least most (d ∷ []) one h = num_is least most (d ∷ []) refl ∙ num_no_digit least most 0 d [] h
+num_one_bad least most (d ∷ e ∷ rest) one h = absurd (omega (arith, one))

@@ -3,7 +3,7 @@ use Rattle.std.proofs.Common.{◌≡◌, ◌<◌, ◌≤◌, ◌+◌, ◌++◌, 
 use Rattle.std.specs.Prelude.{decimal}
 use Rattle.std.specs.List.{flat_map, join_with_byte, range_with_len}
 use Rattle.std.proofs.lemmas.Grind.{flat_map-append}
-use Rattle.std.proofs.lemmas.List.{append-nil, drop_all, drop_more, take-append-drop, take_all, take_more}
+use Rattle.std.proofs.lemmas.List.{append-nil, drop_all, drop_more, take_all}
 use Rattle.std.proofs.lemmas.List.FromFn.{get_or-range_with_len, length-range_with_len}
 use Rattle.line_fields.specs.Records.{Record}
 use Rattle.line_fields.specs.Texts.{hex_pair, hex_text, record_text, records_text}
@@ -45,20 +45,7 @@ join_last name (field ∷ fields) last = ap (λ (t : List ℕ). name ++ (44 ∷ 
 pub ending_is : (name : List ℕ) (fields : List (List ℕ)) (last : List ℕ) → record_text (name ∷ fields ++ last ∷ []) ≡ join_with_byte 44 (name ∷ fields) ++ ((44 ∷ last) ++ 10 ∷ [])
 ending_is name fields last = ap (λ (t : List ℕ). t ++ 10 ∷ []) (join_last name fields last) ∙ append_assoc (join_with_byte 44 (name ∷ fields)) (44 ∷ last) (10 ∷ [])
 
--- one item more
-pub one_more_of : {A : Type 0} (f : A → List ℕ) (items : List A) (i : ℕ) (d : A) → i < length items → flat_map f (take (i + 1) items) ≡ flat_map f (take i items) ++ f (get_or items i d)
-one_more_of {A} f items i d lt =
-    ap (λ (xs : List A). flat_map f xs) (take_more items i d lt) ∙ flat_map-append f (take i items) (get_or items i d ∷ [])
-    ∙ ap (λ (t : List ℕ). flat_map f (take i items) ++ t) (append-nil (f (get_or items i d)))
-
--- all items: those up to one, and those behind it
-pub up_to : {A : Type 0} (f : A → List ℕ) (items : List A) (i : ℕ) → flat_map f items ≡ flat_map f (take i items) ++ flat_map f (drop i items)
-up_to {A} f items i = ap (λ (xs : List A). flat_map f xs) (sym (take-append-drop i items)) ∙ flat_map-append f (take i items) (drop i items)
-
-pub up_to_next : {A : Type 0} (f : A → List ℕ) (items : List A) (i : ℕ) (d : A) → i < length items
-    → flat_map f items ≡ (flat_map f (take i items) ++ f (get_or items i d)) ++ flat_map f (drop (i + 1) items)
-up_to_next {A} f items i d lt = up_to f items (i + 1) ∙ ap (λ (t : List ℕ). t ++ flat_map f (drop (i + 1) items)) (one_more_of f items i d lt)
-
+-- all items, as far as one past the last
 pub all_of : {A : Type 0} (f : A → List ℕ) (items : List A) (i : ℕ) → length items ≤ i → flat_map f items ≡ flat_map f (take i items)
 all_of {A} f items i le = ap (λ (xs : List A). flat_map f xs) (sym (take_all i items le))
 

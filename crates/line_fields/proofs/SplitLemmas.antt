@@ -1,5 +1,5 @@
 -- The fields of a line, as far as the bits of a chunk's mask go.
-use Rattle.std.proofs.Common.{◌≡◌, ◌≢◌, ◌≤◌, ◌<◌, ◌||◌, ◌∙◌, ◌++◌, ◌∷◌, ◌+◌, ◌-◌, ◌/◌, ◌^◌, ℕ, List, [], Bool, true, false, length, map, get_or, ap, sym, subst, arith, ne_eqb}
+use Rattle.std.proofs.Common.{◌≡◌, ◌≢◌, ◌≤◌, ◌<◌, ◌||◌, ◌∙◌, ◌++◌, ◌∷◌, ◌+◌, ◌-◌, ◌/◌, ◌^◌, ℕ, List, [], Bool, true, false, length, map, get_or, refl, ap, sym, subst, arith, ne_eqb}
 use Rattle.std.proofs.lemmas.Simd.{none_from_empty_mask}
 use lib.Count.{count_trailing_zeros}
 use lib.Lanes.{chunk, mask_l}
@@ -57,6 +57,17 @@ under_ends text ends at next marks under none =
 -- what ends a field and is no comma ends a line
 pub other_mark : (b : ℕ) → is_mark b ≡ true → b ≢ 44 → is_end b ≡ true
 other_mark b h other = sym (ap (λ (x : Bool). x || is_end b) (ne_eqb b 44 other)) ∙ h
+
+-- none of the three bytes ends no field
+pub other_byte : (b : ℕ) → b ≢ 44 → b ≢ 10 → b ≢ 13 → is_mark b ≡ false
+other_byte b comma feed return = rw (ne_eqb b 44 comma, ne_eqb b 10 feed, ne_eqb b 13 return) refl
+
+-- a line feed or a carriage return ends a line
+pub feed_ends : (b : ℕ) → b ≡ 10 → is_end b ≡ true
+feed_ends b is = rw is refl
+
+pub return_ends : (b : ℕ) → b ≡ 13 → is_end b ≡ true
+return_ends b is = rw is refl
 
 -- a byte that ends no field is passed
 pub parted_passes : (text ends : List ℕ) (at : ℕ) → IsParted text ends at → at < length text → is_mark (get_or text at 0) ≡ false → IsParted text ends (at + 1)

@@ -26,23 +26,6 @@ fn are_common(text: &[u8]) -> bool
     common
 }
 
-// Whether each byte may stand where it does. It always looks at all of them, each with the next, so
-// that it is compiled to look at many at once.
-fn are_allowed(text: &[u8]) -> bool
-    ensures { result ≡ is_input_text text.now }
-{
-    if text.is_empty() {
-        return true;
-    }
-    let last = text.len() - 1;
-    let mut allowed = true;
-    for i in 0..last {
-        let ends_line = (text[i] == b'\r') & (text[i + 1] == b'\n');
-        allowed &= is_common(text[i]) | ends_line;
-    }
-    allowed & is_common(text[last])
-}
-
 /// Whether a text has only the bytes that an input text may have: those from the blank to the tilde
 /// but the double quote, line feeds, and carriage returns directly before a line feed.
 ///
@@ -56,7 +39,16 @@ pub fn is_plain(text: &[u8]) -> bool
     while rest.len() >= BLOCK && are_common(&rest[..BLOCK]) {
         rest = &rest[BLOCK..];
     }
-    are_allowed(rest)
+    if rest.is_empty() {
+        return true;
+    }
+    let last = rest.len() - 1;
+    let mut allowed = true;
+    for i in 0..last {
+        let ends_line = (rest[i] == b'\r') & (rest[i + 1] == b'\n');
+        allowed &= is_common(rest[i]) | ends_line;
+    }
+    allowed & is_common(rest[last])
 }
 
 /// Whether a line, given without its end, has only bytes from the blank to the tilde but the double

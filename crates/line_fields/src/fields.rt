@@ -1,11 +1,11 @@
 //! The numbers and the bytes that fields spell.
 
-ghost use Rattle.std.specs.Prelude.{◌≡◌, ◌≤◌, ◌∷◌, [], IfOk, take, vec_len};
+ghost use Rattle.std.specs.Prelude.{◌≡◌, ◌≤◌, IfOk, take, vec_len};
 ghost use Rattle.line_fields.specs.Digits.{with_front};
 ghost use Rattle.line_fields.specs.Fields.{Gives, digit, num};
 ghost use Rattle.line_fields.specs.Fields as spec;
 
-use crate::digits::{NO_DIGIT, eights_into};
+use crate::digits::{NO_DIGIT, first_eight, first_four};
 use crate::{Fault, ReadError};
 use std::alloc::Global;
 
@@ -27,24 +27,6 @@ static VALUES: [u8; 256] = [
     255, 255, 255,
 ];
 
-// The number that a field of one byte spells, in a range.
-fn of_digit(digit: u8, least: u64, most: u64) -> Result<u64, Fault>
-    ensures exact { result ≡ num least most (digit ∷ []) }
-    ensures within { IfOk result (λ n. (least ≤ n) × (n ≤ most)) }
-{
-    if !digit.is_ascii_digit() {
-        return Err(Fault::BadNumber);
-    }
-    let value = u64::from(digit - b'0');
-    if most < value {
-        return Err(Fault::BadNumber);
-    }
-    if value < least {
-        return Err(Fault::BadNumber);
-    }
-    Ok(value)
-}
-
 /// The number that the digits of a field spell, leading zeros among them, in a range.
 ///
 /// Refused as `BadNumber`: a field that is empty, has a byte that is no digit, or spells a number
@@ -55,7 +37,14 @@ pub fn number(text: &[u8], least: u64, most: u64) -> Result<u64, Fault>
     ensures within { IfOk result (λ n. (least ≤ n) × (n ≤ most)) }
 {
     if let [digit] = text {
-        return of_digit(*digit, least, most);
+        if !digit.is_ascii_digit() {
+            return Err(Fault::BadNumber);
+        }
+        let value = u64::from(*digit - b'0');
+        if value < least || value > most {
+            return Err(Fault::BadNumber);
+        }
+        return Ok(value);
     }
     let most_tens = most / 10;
     let mut value = 0u64;
@@ -104,7 +93,19 @@ pub fn hex_behind(bytes: &mut Vec<u8>, text: &[u8]) -> Result<(), ReadError>
     ensures kept { take (vec_len bytes.old) bytes.new.items ≡ bytes.old.items }
 {
     bytes.reserve(text.len() / 2)?;
-    let mut rest = eights_into(bytes, text);
+    let mut rest = text;
+    while let Some(eight) = first_eight(rest) {
+        let Ok(()) = bytes.extend_from_slice(&eight) else {
+            unreachable!()
+        };
+        rest = &rest[16..];
+    }
+    while let Some(four) = first_four(rest) {
+        let Ok(()) = bytes.extend_from_slice(&four) else {
+            unreachable!()
+        };
+        rest = &rest[8..];
+    }
     while let [high, low, others @ ..] = rest {
         let high = digit(*high)?;
         let low = digit(*low)?;

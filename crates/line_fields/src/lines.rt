@@ -1,44 +1,12 @@
 //! The bytes of a field, written after a text that has room for them.
 
-ghost use Rattle.std.specs.Prelude.{◌≡◌, ◌≤◌, ◌<◌, ◌↔◌, ◌++◌, ◌+◌, ◌*◌, IsTrue, length};
+ghost use Rattle.std.specs.Prelude.{◌≡◌, ◌≤◌, ◌<◌, ◌↔◌, ◌++◌, ◌+◌, IsTrue, length};
 ghost use Rattle.std.specs.Prelude.{vec_capacity, vec_len, decimal};
-ghost use Rattle.line_fields.specs.Texts.{hex_digit, hex_pair, hex_text};
 ghost use Rattle.line_fields.specs.Writers.{two_digits};
 
 // Words of up to so many bytes are written byte by byte, which takes less than a call that moves
 // bytes.
 const SHORT_WORD: usize = 8;
-
-// The hexadecimal digits, of lower case.
-static DIGITS: [u8; 16] = *b"0123456789abcdef";
-
-// The digit, of lower case, that stands for a value below 16.
-fn hex_digit(value: u8) -> u8
-    requires { value < 16 }
-    ensures { result ≡ hex_digit value }
-{
-    DIGITS[usize::from(value)]
-}
-
-/// The two hexadecimal digits of a byte.
-pub(crate) fn pair_of(byte: u8) -> [u8; 2]
-    ensures { result ≡ hex_pair byte }
-{
-    [hex_digit(byte / 16), hex_digit(byte % 16)]
-}
-
-// Writes bytes in hexadecimal, where there is room for their digits.
-#[tactic(auto, unfolding(crate::specs::Texts::hex_text))]
-pub(crate) fn push_hex(out: &mut Vec<u8>, bytes: &[u8])
-    requires { vec_len out.old + 2 * length bytes.now ≤ vec_capacity out.old }
-    ensures { out.new.items ≡ out.old.items ++ hex_text bytes.now }
-{
-    for byte in bytes {
-        let (high, low) = (*byte / 16, *byte % 16);
-        out.push_reserved(hex_digit(high));
-        out.push_reserved(hex_digit(low));
-    }
-}
 
 // Writes the two digits of a number below 100, where there is room for them.
 #[inline(always)]

@@ -8,18 +8,13 @@ ghost use Rattle.line_fields.specs.Texts.{hex_text, record_text};
 ghost use Rattle.line_fields.specs.Outlets.{field_text};
 
 use crate::RecordWriter;
-use crate::digits::push_eights;
-use crate::lines::{
-    has_spare_room, pair_of, push_hex, push_number, push_small, push_text, push_word,
-};
+use crate::digits::{hex_digit, push_hex};
+use crate::lines::{has_spare_room, push_number, push_small, push_text, push_word};
 use itoa::Buffer;
 use line_devices::{DeviceFault, Sink, put_all};
 
 // Numbers below this have eight digits at most, and are written two digits at a time.
 const SHORT_NUMBER: u64 = 100_000_000;
-
-// A comma and a short number have so many bytes at most.
-const SHORT_ROOM: usize = 9;
 
 // A comma and a number have so many bytes at most.
 const NUMBER_ROOM: usize = 41;
@@ -81,18 +76,6 @@ fn add_word<K: Sink>(sink: &mut K, text: &mut Vec<u8>, word: &[u8]) -> Result<()
     add(sink, text, word)
 }
 
-// Writes a comma and a number after a text, also where it is long or there is no room.
-#[cold]
-#[inline(never)]
-fn add_number_far<K: Sink>(sink: &mut K, text: &mut Vec<u8>, value: u64) -> Result<(), DeviceFault>
-    ensures { Outputs result (K.taken sink.old) (K.taken sink.new)
-        (K.faults sink.old) (K.faults sink.new)
-        text.new.items (text.old.items ++ 44 ∷ decimal value) }
-{
-    let mut buffer = Buffer::new();
-    add_word(sink, text, buffer.format(value).as_bytes())
-}
-
 // Writes a comma and a number after a text.
 #[inline(always)]
 fn add_number<K: Sink>(sink: &mut K, text: &mut Vec<u8>, value: u64) -> Result<(), DeviceFault>
@@ -100,44 +83,31 @@ fn add_number<K: Sink>(sink: &mut K, text: &mut Vec<u8>, value: u64) -> Result<(
         (K.faults sink.old) (K.faults sink.new)
         text.new.items (text.old.items ++ 44 ∷ decimal value) }
 {
-    if value >= SHORT_NUMBER || !has_spare_room(text, SHORT_ROOM) {
-        return add_number_far(sink, text, value);
+    if !has_spare_room(text, NUMBER_ROOM) {
+        return begin_far(sink, text, b"", &[value], b"");
     }
-    text.push_reserved(b',');
-    push_number(text, value as u32);
+    push_field(text, value);
     Ok(())
 }
 
-// Writes the digits of bytes after a text that has no room for them all, byte by byte.
-#[cold]
-#[inline(never)]
-fn add_digits_far<K: Sink>(
-    sink: &mut K,
-    text: &mut Vec<u8>,
-    bytes: &[u8],
-) -> Result<(), DeviceFault>
-    ensures { Outputs result (K.taken sink.old) (K.taken sink.new)
-        (K.faults sink.old) (K.faults sink.new)
-        text.new.items (text.old.items ++ hex_text bytes.now) }
-{
-    for i in 0..bytes.len() {
-        add(sink, text, &pair_of(bytes[i]))?;
-    }
-    Ok(())
-}
-
-// Writes a comma and the digits of bytes after a text.
+// Writes a comma and the digits of bytes after a text, byte by byte where it has no room for all.
 fn add_bytes<K: Sink>(sink: &mut K, text: &mut Vec<u8>, bytes: &[u8]) -> Result<(), DeviceFault>
     ensures { Outputs result (K.taken sink.old) (K.taken sink.new)
         (K.faults sink.old) (K.faults sink.new)
         text.new.items (text.old.items ++ 44 ∷ hex_text bytes.now) }
 {
     add(sink, text, b",")?;
-    if !has_spare_room(text, 2 * bytes.len()) {
-        return add_digits_far(sink, text, bytes);
+    if has_spare_room(text, 2 * bytes.len()) {
+        push_hex(text, bytes);
+        return Ok(());
     }
-    let left = push_eights(text, bytes);
-    push_hex(text, left);
+    for i in 0..bytes.len() {
+        add(
+            sink,
+            text,
+            &[hex_digit(bytes[i] / 16), hex_digit(bytes[i] % 16)],
+        )?;
+    }
     Ok(())
 }
 
@@ -209,7 +179,8 @@ fn begin_far<K: Sink>(
 {
     add(sink, text, name)?;
     for i in 0..numbers.len() {
-        add_number(sink, text, numbers[i])?;
+        let mut buffer = Buffer::new();
+        add_word(sink, text, buffer.format(numbers[i]).as_bytes())?;
     }
     add(sink, text, end)
 }

@@ -172,34 +172,6 @@ impl<'a> FieldRow<'a> {
         self.take_line(line)?;
         Ok(true)
     }
-
-    // Puts the next record of a reader of `csv` in place of the fields of the row, or none after
-    // the last one and where it is refused. An error of `csv` on a plain text, over memory, is
-    // answered as out of memory.
-    #[tactic(auto, unfolding(crate::specs::Rows::spans_from))]
-    fn read_record(&mut self, reader: &mut Reader<&[u8]>) -> Result<bool, AllocError>
-        requires { IsReading reader.old }
-        ensures ok { IfOk result
-            (λ found. MatchBool found
-            (IsReading reader.new × (rows_left reader.old ≡ self.new ∷ rows_left reader.new))
-            ((rows_left reader.old ≡ []) × (self.new ≡ []))) }
-        ensures err { OnErr result (self.new ≡ []) }
-    {
-        match read(reader, &mut self.record) {
-            Ok(true) => {
-                self.ends.clear();
-                Ok(true)
-            }
-            Ok(false) => {
-                self.clear();
-                Ok(false)
-            }
-            Err(_) => {
-                self.clear();
-                Err(AllocError)
-            }
-        }
-    }
 }
 
 // The next record of a reader of `csv`.
@@ -233,7 +205,10 @@ fn hand_over<'a>(alloc: Global, rest: &'a [u8]) -> Result<Box<Reader<&'a [u8]>>,
     Ok(reader)
 }
 
-// The next record of what `csv` reads, or the end, after which nothing is left to it.
+// Puts the next record of what `csv` reads in place of the fields of the row, or none after the last
+// one and where it is refused, and then nothing is left to it. An error of `csv` on a plain text,
+// over memory, is answered as out of memory.
+#[tactic(auto, unfolding(crate::specs::Rows::spans_from))]
 fn read_or_close(
     reader: &mut Option<Box<Reader<&[u8]>>>,
     row: &mut FieldRow<'_>,
@@ -249,15 +224,20 @@ fn read_or_close(
         row.clear();
         return Ok(false);
     };
-    match row.read_record(left) {
-        Ok(true) => Ok(true),
+    match read(left, &mut row.record) {
+        Ok(true) => {
+            row.ends.clear();
+            Ok(true)
+        }
         Ok(false) => {
+            row.clear();
             *reader = None;
             Ok(false)
         }
-        Err(refused) => {
+        Err(_) => {
+            row.clear();
             *reader = None;
-            Err(refused)
+            Err(AllocError)
         }
     }
 }

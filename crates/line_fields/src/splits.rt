@@ -2,20 +2,13 @@
 
 ghost use Rattle.std.specs.Prelude.{◌≡◌, All, IfOk, take};
 ghost use Rattle.line_fields.specs.Records.{parts};
-ghost use Rattle.line_fields.specs.Rows.{IsLineEnd, IsFieldWithin, fields_in, is_mark, spans_from};
+ghost use Rattle.line_fields.specs.Rows.{IsLineEnd, IsFieldWithin, fields_in, spans_from};
 
 use std::alloc::AllocError;
 use std::simd::prelude::*;
 
-// Whether a byte ends a field: a comma, or what ends a line, which is a line feed or the carriage
-// return before one.
-fn is_mark(byte: u8) -> bool
-    ensures { result ≡ is_mark byte }
-{
-    byte == b',' || byte == b'\n' || byte == b'\r'
-}
-
-// Where the fields of the first line of a text end, and where that line does.
+// Where the fields of the first line of a text end, and where that line does: before a line feed or
+// a carriage return, or with the text.
 //
 // Its bytes are looked at sixteen at a time, and near the end of the text one by one.
 #[inline(always)]
@@ -46,12 +39,9 @@ pub(crate) fn split(text: &[u8], ends: &mut Vec<usize>) -> Result<usize, AllocEr
         }
         at += 16;
     }
-    while at < text.len() {
-        if is_mark(text[at]) {
+    while at < text.len() && text[at] != b'\n' && text[at] != b'\r' {
+        if text[at] == b',' {
             ends.push(at)?;
-            if text[at] != b',' {
-                return Ok(at);
-            }
         }
         at += 1;
     }

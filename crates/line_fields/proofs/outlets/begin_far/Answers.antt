@@ -17,11 +17,11 @@ pub loop-i-init : goal.loop-i-init
 loop-i-init g c = out_more c.args.name.now _ (join_ends decimal c.args.name.now c.args.numbers.now c.args.end.now) (out_none _ _ _ _) c.in_ok-add.ensures
 
 pub loop-i-preserved : goal.loop-i-preserved
-loop-i-preserved g c = out_more _ _ (parts_left part c.args.numbers.now c.loop-i.i 0 c.args.end.now (omega arith)) c.loop-i.invariant c.in_ok-add_number.ensures
+loop-i-preserved g c = out_more _ _ (parts_left part c.args.numbers.now c.loop-i.i 0 c.args.end.now (omega arith)) c.loop-i.invariant (rw (c.as_bytes.ensures.value, c.format.ensures.text) at c.in_ok-add_word.ensures)
 
-pub returns-in_err-add_number : goal.returns-in_err-add_number
-returns-in_err-add_number g c =
-    out_front _ _ _ _ _ (parts_left part c.args.numbers.now c.loop-i.i 0 c.args.end.now (omega arith)) c.loop-i.invariant c.in_err-add_number.ensures c.from_residual-in_err-add_number.ensures.1
+pub returns-in_err-add_word : goal.returns-in_err-add_word
+returns-in_err-add_word g c =
+    out_front _ _ _ _ _ (parts_left part c.args.numbers.now c.loop-i.i 0 c.args.end.now (omega arith)) c.loop-i.invariant (rw (c.as_bytes.ensures.value, c.format.ensures.text) at c.in_err-add_word.ensures) c.from_residual-in_err-add_word.ensures.1
 
 pub returns : goal.returns
 returns g c =

@@ -4,9 +4,10 @@ use lib.Count.{count_trailing_zeros}
 use lib.Lanes.{chunk}
 use Rattle.line_fields.proofs.EndLemmas.{parted_at_comma, parted_begins, parted_ends, parted_line, parted_within}
 use Rattle.line_fields.proofs.MarkLemmas.{marks_are}
-use Rattle.line_fields.proofs.SplitLemmas.{other_mark, parted_passes, under_begins, under_ends, under_first, under_mark, under_more}
+use Rattle.line_fields.proofs.SplitLemmas.{feed_ends, other_byte, other_mark, parted_passes, return_ends, under_begins, under_ends, under_first, under_mark, under_more}
 use Rattle.line_fields.proofs.splits.split.Goals as goal
-use Rattle.line_fields.proofs.splits.split.Goals.{then-is_mark+in_ok-push-2+else-text-at-ne44, else-is_mark}
+use Rattle.line_fields.proofs.splits.split.Goals.{then-text-at-eq44+in_ok-push-2, else-text-at-eq44}
+use Rattle.line_fields.proofs.splits.split.Goals.{then-loop-at-2-test+else-text-at-ne10, then-loop-at-2-test+then-text-at-ne10+else-text-at-ne13, else-loop-at-2-test}
 
 pub loop-at-init : goal.loop-at-init
 loop-at-init c = rw c.clear.ensures.items (parted_begins c.args.text.now)
@@ -62,29 +63,25 @@ loop-at-preserved c =
     let s = c.loop-marks in
     under_ends c.args.text.now s.ends.items c.loop-at.at s.next s.marks s.invariant (omega (arith, c.loop-marks-test.false))
 
-pub returns-then-text-at-ne44-clause-line : goal.returns-then-text-at-ne44-clause-line
-returns-then-text-at-ne44-clause-line c =
-    let s = c.loop-at-2 in
-    parted_line c.args.text.now s.ends.items s.at s.invariant (λ lt. other_mark _ (sym c.is_mark.ensures ∙ c.if-is_mark.true) c.if-text-at-ne44.true)
-
-pub returns-then-text-at-ne44-clause-within : goal.returns-then-text-at-ne44-clause-within
-returns-then-text-at-ne44-clause-within c =
-    rw c.in_ok-push-2.ensures.items (parted_within c.args.text.now c.loop-at-2.ends.items c.loop-at-2.at c.loop-at-2.invariant)
-
-pub returns-then-text-at-ne44-clause-fields : goal.returns-then-text-at-ne44-clause-fields
-returns-then-text-at-ne44-clause-fields c =
-    rw c.in_ok-push-2.ensures.items (parted_ends c.args.text.now c.loop-at-2.ends.items c.loop-at-2.at c.loop-at-2.invariant)
-
 pub loop-at-2-preserved : goal.loop-at-2-preserved
 loop-at-2-preserved c =
     let text = c.args.text.now in
     let s = c.loop-at-2 in
-    elim c.if-is_mark.branch [
-      | then-is_mark+in_ok-push-2+else-text-at-ne44 w ↦
-          rw (w.ends-is, w.in_ok-push-2.ensures.items) (parted_at_comma text s.ends.items s.at s.invariant c.loop-at-2-test.true w.if-text-at-ne44.false)
-      | else-is_mark w ↦
-          rw w.ends-is (parted_passes text s.ends.items s.at s.invariant c.loop-at-2-test.true (sym c.is_mark.ensures ∙ w.if-is_mark.false))
+    let lt : s.at < length text = c.loop-at-2-test.true in
+    elim c.if-text-at-eq44.branch [
+      | then-text-at-eq44+in_ok-push-2 w ↦ rw (w.ends-is, w.in_ok-push-2.ensures.items) (parted_at_comma text s.ends.items s.at s.invariant lt w.if-text-at-eq44.true)
+      | else-text-at-eq44 w ↦ rw w.ends-is (parted_passes text s.ends.items s.at s.invariant lt (other_byte _ w.if-text-at-eq44.false (c.if-text-at-ne10.true) (c.if-text-at-ne13.true)))
     ]
+
+pub returns-clause-line : goal.returns-clause-line
+returns-clause-line c =
+    let s = c.loop-at-2 in
+    parted_line c.args.text.now s.ends.items s.at s.invariant
+    (λ lt. elim c.loop-at-2-test.branch [
+      | then-loop-at-2-test+else-text-at-ne10 w ↦ feed_ends _ w.if-text-at-ne10.false
+      | then-loop-at-2-test+then-text-at-ne10+else-text-at-ne13 w ↦ return_ends _ w.if-text-at-ne13.false
+      | else-loop-at-2-test w ↦ absurd (omega (arith, lt, w.loop-at-2-test.false))
+    ])
 
 pub returns-clause-within : goal.returns-clause-within
 returns-clause-within c = rw c.in_ok-push-3.ensures.items (parted_within c.args.text.now c.loop-at-2.ends.items c.loop-at-2.at c.loop-at-2.invariant)
