@@ -205,9 +205,9 @@ fn hand_over<'a>(alloc: Global, rest: &'a [u8]) -> Result<Box<Reader<&'a [u8]>>,
     Ok(reader)
 }
 
-// Puts the next record of what `csv` reads in place of the fields of the row, or none after the last
-// one and where it is refused, and then nothing is left to it. An error of `csv` on a plain text,
-// over memory, is answered as out of memory.
+// Puts the next record of what `csv` reads in place of the fields of the row, or none after the
+// last one and where it is refused, and then nothing is left to it. An error of `csv` on a plain
+// text, over memory, is answered as out of memory.
 #[tactic(auto, unfolding(crate::specs::Rows::spans_from))]
 fn read_or_close(
     reader: &mut Option<Box<Reader<&[u8]>>>,
