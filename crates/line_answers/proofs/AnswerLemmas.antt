@@ -1,6 +1,6 @@
 -- What one command is told, and what is written of it.
-use Rattle.std.proofs.Common.{◌≡◌, ◌≢◌, ◌≤◌, ℕ, ◌+◌, cond, List, [], ◌∷◌, ◌++◌, Option, length, refl, ap, ◌∙◌, subst, sym, arith}
-use Rattle.std.specs.Prelude.{Bool, Err, IfErr, IfOk, IsTrue, Ok, Result, true, false}
+use Rattle.std.proofs.Common.{◌≡◌, ◌≤◌, ℕ, ◌+◌, cond, List, [], ◌∷◌, ◌++◌, Option, length, refl, ap, ◌∙◌, subst, sym, arith}
+use Rattle.std.specs.Prelude.{Bool, IsTrue, true, false}
 use Rattle.std.specs.List.{flat_map}
 use Rattle.std.proofs.lemmas.Grind.{flat_map-append}
 use Rattle.std.proofs.lemmas.List.{append-nil}
@@ -13,6 +13,7 @@ use Rattle.line_fields.specs.Faults.{code_of}
 use Rattle.line_fields.specs.Texts.{record_text, records_text}
 use Rattle.line_fields.proofs.OutletLemmas.{one_text}
 use Rattle.line_plan.specs.declared.plans.Plan.{Plan}
+use Rattle.line_moves.specs.Listed.{ListedRound}
 use Rattle.line_world.specs.Refusals.{has_stranger}
 use Rattle.line_world.specs.Steps.{IsPlan}
 use Rattle.line_world.specs.Machine.{Machine}
@@ -21,14 +22,13 @@ use Rattle.line_scripts.specs.declared.commands.Command.TheVariants as commands
 use Rattle.line_steps.specs.declared.steps.Step.{Step}
 use Rattle.line_world.specs.declared.replies.Reply.{Reply}
 use Rattle.line_world.specs.declared.replies.StepError.{StepError}
-use Rattle.line_world.specs.declared.replies.StepError.TheVariants as errors
 use Rattle.line_world.specs.declared.replies.Answer.TheVariants as answers
 use Rattle.line_world.specs.Runs.{Takes}
 use Rattle.line_world.specs.Codes.{refusal_code}
 use Rattle.line_answers.specs.Replies.{reply_records, refusal_record as refused_record}
 use Rattle.line_answers.specs.Rounds.{rounds_records}
 use Rattle.line_answers.specs.declared.halts.Halt.TheVariants as halts
-use Rattle.line_answers.specs.Answers.{Answers, CommandAnswer, Answered, Refused, Listing, Shown, Claimed, IsClaimFor, command_answer_records, is_refused, Tells, TellsAll, text_of, refusals, DoesCommand, DoesFront}
+use Rattle.line_answers.specs.Answers.{CommandAnswer, Answered, Refused, Listing, Shown, Claimed, IsClaimFor, command_answer_records, is_refused, Tells, TellsAll, text_of, refusals, DoesCommand, DoesFront}
 
 -- runs, one after the other
 pub TellsAll-both : (old mid new : Machine) (commands others : List Command) (told more : List CommandAnswer) → TellsAll old commands told mid → TellsAll mid others more new → TellsAll old (commands ++ others) (told ++ more) new
@@ -61,12 +61,6 @@ one_refusal (Refused code) = omega arith
 one_refusal (Listing n rounds) = omega arith
 one_refusal (Shown history) = omega arith
 one_refusal (Claimed history claim) = omega arith
-
--- what the machine answers to a step is an answer to it
-pub answered : (old new : Machine) (step : Step) (answer : Result Reply StepError) → IfOk answer (λ reply. Takes old step (answers.Done reply) new)
-    → IfErr answer (λ error. error ≢ errors.OutOfMemory → Takes old step (answers.Refused error) new) → Answers old step answer new
-answered old new step (Ok reply) done refused = done
-answered old new step (Err error) done refused = refused
 
 -- a text was put but for its end, seen as what a command is told
 does : (old new : Machine) (command : Command) (told : CommandAnswer) (taken now : Option (List ℕ)) (held later text : List ℕ) → Tells old command told new → records_text (command_answer_records told) ≡ text → PutsButEnd taken now later (held ++ text)
@@ -109,11 +103,13 @@ pub told_front : (old : Machine) (code : ℕ) (taken now : Option (List ℕ)) (h
 told_front old code taken now held put = does_front old old (commands.Refused code) (Refused code) taken now held (record_text (refused_record code)) (refl, refl) (one_text (refused_record code)) put
 
 -- rounds that were listed
-pub rounds_does : (old : Machine) (taken now : Option (List ℕ)) (held later : List ℕ) → PutsButEnd taken now later (held ++ records_text (rounds_records (length old.history) old.rounds)) → DoesCommand old commands.Rounds old taken now held later false
-rounds_does old taken now held later put = does old old commands.Rounds (Listing (length old.history) old.rounds) taken now held later (records_text (rounds_records (length old.history) old.rounds)) (refl, refl, refl) refl put
+pub rounds_does : (old : Machine) (n : ℕ) (rounds : List ListedRound) (taken now : Option (List ℕ)) (held later : List ℕ) → n ≡ length old.history → rounds ≡ old.rounds → PutsButEnd taken now later (held ++ records_text (rounds_records n rounds))
+    → DoesCommand old commands.Rounds old taken now held later false
+rounds_does old n rounds taken now held later many same put = does old old commands.Rounds (Listing n rounds) taken now held later (records_text (rounds_records n rounds)) (many, same, refl) refl put
 
-pub rounds_front : (old : Machine) (taken now : Option (List ℕ)) (held : List ℕ) → PutsFront taken now (held ++ records_text (rounds_records (length old.history) old.rounds)) → DoesFront old commands.Rounds old taken now held
-rounds_front old taken now held put = does_front old old commands.Rounds (Listing (length old.history) old.rounds) taken now held (records_text (rounds_records (length old.history) old.rounds)) (refl, refl, refl) refl put
+pub rounds_front : (old : Machine) (n : ℕ) (rounds : List ListedRound) (taken now : Option (List ℕ)) (held : List ℕ) → n ≡ length old.history → rounds ≡ old.rounds → PutsFront taken now (held ++ records_text (rounds_records n rounds))
+    → DoesFront old commands.Rounds old taken now held
+rounds_front old n rounds taken now held many same put = does_front old old commands.Rounds (Listing n rounds) taken now held (records_text (rounds_records n rounds)) (many, same, refl) refl put
 
 -- a history that was shown
 pub shown_does : (old : Machine) (taken now : Option (List ℕ)) (held later : List ℕ) → PutsButEnd taken now later (held ++ records_text (history_records old.history)) → DoesCommand old commands.History old taken now held later false

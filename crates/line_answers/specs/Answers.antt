@@ -1,6 +1,6 @@
 -- What commands are told, and what is written of that.
-use Rattle.std.specs.Prelude.{IsTrue, ◌≡◌, ◌≢◌, ℕ, ◌++◌, Bool, true, false, List, [], ◌∷◌, Option}
-use Rattle.std.specs.Prelude.{length, Result, Ok, Err}
+use Rattle.std.specs.Prelude.{IsTrue, ◌≡◌, ℕ, ◌++◌, Bool, true, false, List, [], ◌∷◌, Option}
+use Rattle.std.specs.Prelude.{length}
 use Rattle.std.specs.List.{count_by, flat_map}
 use Rattle.line_claims.specs.Claims.{Claim}
 use Rattle.line_claims.specs.Records.{check_records, history_records, in_order}
@@ -10,10 +10,6 @@ use Rattle.line_fields.specs.Records.{Record}
 use Rattle.line_fields.specs.Texts.{records_text}
 use Rattle.line_world.specs.declared.replies.Answer.{Answer}
 use Rattle.line_world.specs.declared.replies.Answer.TheVariants as answers
-use Rattle.line_world.specs.declared.replies.Reply.{Reply}
-use Rattle.line_world.specs.declared.replies.StepError.{StepError}
-use Rattle.line_world.specs.declared.replies.StepError.TheVariants as errors
-use Rattle.line_steps.specs.declared.steps.Step.{Step}
 use Rattle.line_moves.specs.Listed.{ListedRound}
 use Rattle.line_world.specs.Machine.{Machine}
 use Rattle.line_plan.specs.declared.plans.Plan.{Plan}
@@ -66,12 +62,6 @@ pub record IsClaimFor (machine : Machine) (failed : List Bool) (claim : Claim) :
         line = plan.line;
         certificate = plan.certificate.items;
       }
-
--- from old, a step was answered so and left new, unless memory did not suffice for it
-abbrev pub Answers : Machine → Step → Result Reply StepError → Machine → Type 0
-Answers old step (Ok reply) new = Takes old step (answers.Done reply) new
-Answers old step (Err error) new =
-    error ≢ errors.OutOfMemory → Takes old step (answers.Refused error) new
 
 -- from old, a command may be told this, and leaves new
 abbrev pub Tells : Machine → Command → CommandAnswer → Machine → Type 0

@@ -7,9 +7,9 @@ ghost use Rattle.line_fields.specs.Texts.{records_text};
 ghost use Rattle.line_names.specs.declared.limits.TheConstants.{MOST_PROCESSES};
 ghost use Rattle.line_answers.specs.Rounds as records;
 
-use crate::rounds::{put_channel_message, put_round, put_rounds_head};
+use crate::rounds::{put_channel_message, put_round};
 use line_devices::{DeviceFault, Sink};
-use line_fields::RecordWriter;
+use line_fields::{RecordWriter, put_numbers};
 use line_names::{MOST_PROCESSES, MsgName, ProcId};
 use line_world::Round;
 
@@ -32,29 +32,7 @@ fn put_messages<K: Sink>(
     Ok(())
 }
 
-// Writes the channel from one process to another, if they are two.
-fn put_channel<K: Sink>(
-    sink: &mut K,
-    writer: &mut RecordWriter,
-    round: &Round,
-    from: ProcId,
-    to: ProcId,
-) -> Result<(), DeviceFault>
-    requires from { from < length round.now.checks }
-    requires to { to < length round.now.checks }
-    ensures { Outputs result (K.taken sink.old) (K.taken sink.new) (K.faults sink.old)
-        (K.faults sink.new) writer.new
-        (writer.old ++ records_text (records.channel_records round.now from to)) }
-{
-    if from.get() == to.get() {
-        return Ok(());
-    }
-    let number = round.number();
-    let messages = round.channel(from, to);
-    put_messages(sink, writer, number, from, to, messages)
-}
-
-// Writes the channels from one process.
+// Writes the channels from one process to each other.
 fn put_channels_from<K: Sink>(
     sink: &mut K,
     writer: &mut RecordWriter,
@@ -69,33 +47,15 @@ fn put_channels_from<K: Sink>(
         (K.faults sink.new) writer.new
         (writer.old ++ records_text (records.channels_from n round.now from)) }
 {
+    let number = round.number();
     for value in 0..n {
         let Ok(to) = ProcId::try_new(value, n) else {
             unreachable!()
         };
-        put_channel(sink, writer, round, from, to)?;
-    }
-    Ok(())
-}
-
-// Writes the channels of a round.
-fn put_channels<K: Sink>(
-    sink: &mut K,
-    writer: &mut RecordWriter,
-    n: u32,
-    round: &Round,
-) -> Result<(), DeviceFault>
-    requires few { n ≤ MOST_PROCESSES }
-    requires checks { length round.now.checks ≡ n }
-    ensures { Outputs result (K.taken sink.old) (K.taken sink.new) (K.faults sink.old)
-        (K.faults sink.new) writer.new
-        (writer.old ++ records_text (records.channels_records n round.now)) }
-{
-    for value in 0..n {
-        let Ok(from) = ProcId::try_new(value, n) else {
-            unreachable!()
-        };
-        put_channels_from(sink, writer, n, round, from)?;
+        if value != from.get() {
+            let messages = round.channel(from, to);
+            put_messages(sink, writer, number, from, to, messages)?;
+        }
     }
     Ok(())
 }
@@ -114,24 +74,11 @@ fn put_whole_round<K: Sink>(
         (writer.old ++ records_text (records.round_records n round.now)) }
 {
     put_round(sink, writer, n, round)?;
-    put_channels(sink, writer, n, round)
-}
-
-// Writes rounds one after another.
-fn put_each<K: Sink>(
-    sink: &mut K,
-    writer: &mut RecordWriter,
-    n: u32,
-    rounds: &[Round],
-) -> Result<(), DeviceFault>
-    requires few { n ≤ MOST_PROCESSES }
-    requires checks { All (λ round. length round.checks ≡ n) rounds.now }
-    ensures { Outputs result (K.taken sink.old) (K.taken sink.new) (K.faults sink.old)
-        (K.faults sink.new) writer.new
-        (writer.old ++ records_text (flat_map (records.round_records n) rounds.now)) }
-{
-    for i in 0..rounds.len() {
-        put_whole_round(sink, writer, n, &rounds[i])?;
+    for value in 0..n {
+        let Ok(from) = ProcId::try_new(value, n) else {
+            unreachable!()
+        };
+        put_channels_from(sink, writer, n, round, from)?;
     }
     Ok(())
 }
@@ -150,6 +97,9 @@ pub(crate) fn put_rounds<K: Sink>(
         (K.faults sink.new) writer.new
         (writer.old ++ records_text (records.rounds_records n rounds.now)) }
 {
-    put_rounds_head(sink, writer, rounds.len())?;
-    put_each(sink, writer, n, rounds)
+    put_numbers(sink, writer, b"rounds", &[rounds.len() as u64])?;
+    for i in 0..rounds.len() {
+        put_whole_round(sink, writer, n, &rounds[i])?;
+    }
+    Ok(())
 }

@@ -1,6 +1,6 @@
 //! The records that are written for what the machine answers.
 
-ghost use Rattle.std.specs.Prelude.{◌≡◌, ◌++◌, ◌∷◌, [], IfOk, OnOk, decimal};
+ghost use Rattle.std.specs.Prelude.{◌≡◌, ◌++◌, ◌∷◌, [], IfOk, decimal};
 ghost use Rattle.line_claims.specs.Records.{name_fields};
 ghost use Rattle.line_devices.specs.Devices.{Outputs};
 ghost use Rattle.line_fields.specs.Texts.{record_text, records_text};
@@ -96,23 +96,8 @@ fn put_marked<K: Sink>(
         (K.faults sink.new) writer.new
         (writer.old ++ record_text (spec.marked_record round forced)) }
 {
-    if forced {
-        put_ending(
-            sink,
-            writer,
-            b"marked",
-            &[round as u64],
-            Field::Word(b"forced"),
-        )
-    } else {
-        put_ending(
-            sink,
-            writer,
-            b"marked",
-            &[round as u64],
-            Field::Word(b"closed"),
-        )
-    }
+    let word: &[u8] = if forced { b"forced" } else { b"closed" };
+    put_ending(sink, writer, b"marked", &[round as u64], Field::Word(word))
 }
 
 /// Writes the records of a reply after what a writer holds.
@@ -164,28 +149,17 @@ pub fn put_refusal<K: Sink>(
     put_ending(sink, writer, b"refused", &[code as u64], Field::Word(name))
 }
 
-// Writes a reply into memory.
-fn keep_reply(
-    sink: &mut MemSink,
-    writer: &mut RecordWriter,
-    reply: &Reply,
-) -> Result<(), DeviceFault>
-    requires empty { writer.old ≡ [] }
-    requires none { sink.old.bytes ≡ [] }
-    ensures { OnOk result (sink.new.bytes ≡ records_text (spec.reply_records reply.now)) }
-{
-    put_reply(sink, writer, reply)?;
-    put_all(sink, writer.text())
-}
-
 /// The text of a reply. It takes memory for the text, and for 64 KiB.
 pub fn write_reply(alloc: Global, reply: &Reply) -> Result<Vec<u8>, AllocError>
     ensures { IfOk result (λ text. text.items ≡ records_text (spec.reply_records reply.now)) }
 {
     let mut writer = RecordWriter::with_room(alloc)?;
     let mut sink = MemSink::new(alloc, usize::MAX, None);
-    match keep_reply(&mut sink, &mut writer, reply) {
-        Ok(()) => Ok(sink.into_bytes()),
-        Err(_) => Err(AllocError),
-    }
+    let Ok(()) = put_reply(&mut sink, &mut writer, reply) else {
+        return Err(AllocError);
+    };
+    let Ok(()) = put_all(&mut sink, writer.text()) else {
+        return Err(AllocError);
+    };
+    Ok(sink.into_bytes())
 }

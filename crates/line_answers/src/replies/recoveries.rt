@@ -16,22 +16,6 @@ use line_names::{Choice, MsgName, Passed};
 use line_plan::Plan;
 use line_tape::State;
 
-// Writes `recovered,SWEEPS,ENTRIES,REPLAYS`.
-fn put_recovered<K: Sink>(
-    sink: &mut K,
-    writer: &mut RecordWriter,
-    sweeps: u32,
-    entries: usize,
-    replays: usize,
-) -> Result<(), DeviceFault>
-    ensures { Outputs result (K.taken sink.old) (K.taken sink.new) (K.faults sink.old)
-        (K.faults sink.new) writer.new
-        (writer.old ++ record_text (spec.recovered_record sweeps entries replays)) }
-{
-    let numbers = [sweeps as u64, entries as u64, replays as u64];
-    put_numbers(sink, writer, b"recovered", &numbers)
-}
-
 // The incarnation of a process.
 fn incarnation_at(incarnations: &[u16], p: usize) -> u64
     ensures { result ≡ slice_index_or incarnations.now p 0 }
@@ -163,43 +147,6 @@ fn put_replays<K: Sink>(
     Ok(())
 }
 
-// Writes a certificate and replays.
-fn put_rest<K: Sink>(
-    sink: &mut K,
-    writer: &mut RecordWriter,
-    entries: &[Passed],
-    replays: &[MsgName],
-) -> Result<(), DeviceFault>
-    ensures { Outputs result (K.taken sink.old) (K.taken sink.new) (K.faults sink.old)
-        (K.faults sink.new) writer.new
-        (writer.old ++ records_text
-        (spec.pass_records entries.now ++ spec.replay_records replays.now)) }
-{
-    put_passes(sink, writer, entries)?;
-    put_replays(sink, writer, replays)
-}
-
-// Writes the lines of a recovery, its certificate and its replays.
-fn put_line_and_rest<K: Sink>(
-    sink: &mut K,
-    writer: &mut RecordWriter,
-    choices: &[Choice],
-    incarnations: &[u16],
-    states: &[Option<State>],
-    entries: &[Passed],
-    replays: &[MsgName],
-) -> Result<(), DeviceFault>
-    ensures { Outputs result (K.taken sink.old) (K.taken sink.new) (K.faults sink.old)
-        (K.faults sink.new) writer.new
-        (writer.old
-        ++ records_text
-        (spec.process_records choices.now incarnations.now states.now
-        ++ (spec.pass_records entries.now ++ spec.replay_records replays.now))) }
-{
-    put_lines(sink, writer, choices, incarnations, states)?;
-    put_rest(sink, writer, entries, replays)
-}
-
 // Writes the records of a recovery.
 pub(super) fn put_recovery<K: Sink>(
     sink: &mut K,
@@ -217,9 +164,20 @@ pub(super) fn put_recovery<K: Sink>(
 {
     let entries = plan.certificate.as_slice();
     let replays = plan.replays.as_slice();
+    let numbers = [
+        plan.sweeps as u64,
+        entries.len() as u64,
+        replays.len() as u64,
+    ];
+    put_numbers(sink, writer, b"recovered", &numbers)?;
     let choices = plan.line.choices();
-    let incs = incarnations.as_slice();
-    let stored = states.as_slice();
-    put_recovered(sink, writer, plan.sweeps, entries.len(), replays.len())?;
-    put_line_and_rest(sink, writer, choices, incs, stored, entries, replays)
+    put_lines(
+        sink,
+        writer,
+        choices,
+        incarnations.as_slice(),
+        states.as_slice(),
+    )?;
+    put_passes(sink, writer, entries)?;
+    put_replays(sink, writer, replays)
 }
