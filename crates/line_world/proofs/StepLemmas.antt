@@ -11,7 +11,7 @@ use Rattle.line_steps.specs.declared.steps.Step.{Step}
 use Rattle.line_steps.specs.declared.steps.Step.TheVariants.{Send, Deliver, Check, Begin, Turn, Recover}
 use Rattle.line_world.specs.declared.replies.Answer.TheVariants.{Refused}
 use Rattle.line_world.specs.declared.replies.StepError.{StepError}
-use Rattle.line_world.specs.declared.replies.StepError.TheVariants.{OutOfMemory, NoSuchProcess, TapeFull, StateTooLong, ToSelf, LinkEmpty, BadPick, RoundOpen, NothingToTurn, WrongMode, NoMoreRounds}
+use Rattle.line_world.specs.declared.replies.StepError.TheVariants.{NoSuchProcess, TapeFull, StateTooLong, ToSelf, LinkEmpty, BadPick, RoundOpen, NothingToTurn, WrongMode, NoMoreRounds}
 use Rattle.line_world.specs.Machine.{Machine, items_on, is_open}
 use Rattle.line_world.specs.Refusals.{first_cause, link_causes, has_stranger, is_stranger, is_bad_pick, is_full, is_full_for, is_long, may_turn, refusal_of, IsRefused}
 use Rattle.line_steps.specs.Modes.{is_fifo}
@@ -51,16 +51,6 @@ may_send machine from to body none =
     let apart = passed (from == to) ToSelf _ named.1 in
     let room = passed (is_full machine from 1) TapeFull _ apart.1 in
     record { named = are_processes machine from to named.0; few = room_for machine from room.0 }
-
--- want of memory is none of its causes
-pub send_memory : (machine : Machine) (from to : ℕ) (body : List ℕ) (e : StepError) → Some e ≡ refusal_of machine (Send from to body) → e ≡ OutOfMemory → ⊥
-send_memory machine from to body e is wanted = three (is_stranger machine from || is_stranger machine to) (from == to) (is_full machine from 1) (sym is ∙ ap (λ (v : StepError). Some v) wanted)
-  where
-    three : (a b c : Bool) → cond a (Some NoSuchProcess) (cond b (Some ToSelf) (cond c (Some TapeFull) None)) ≡ Some OutOfMemory → ⊥
-    three true b c e = absurd (cc)
-    three false true c e = absurd (cc)
-    three false false true e = absurd (cc)
-    three false false false e = absurd (cc)
 
 -- what a delivery may rely on
 pub record MayDeliver (machine : Machine) (from to pick : ℕ) (state : List ℕ) : Type 0 where

@@ -1,15 +1,13 @@
 //! What a world keeps of rounds and of received messages for its kind of links.
-ghost use Rattle.std.specs.Prelude.{◌≡◌, ◌<◌, ◌++◌, ℕ, List, None, length, map, replicate, IfOk};
+ghost use Rattle.std.specs.Prelude.{◌≡◌, ◌<◌, ◌++◌, ℕ, None, length, map, replicate, IfOk};
 ghost use Rattle.std.specs.Prelude.{OnOk, OnErr};
-ghost use Rattle.std.specs.Option.{is_some};
-ghost use Rattle.line_tape.specs.declared.events.Event.TheVariants.{Send};
 ghost use Rattle.line_tape.specs.declared.items.Item.TheVariants.{Message};
-ghost use Rattle.line_tape.specs.History.{fresh, incarnation_at, with_event};
+ghost use Rattle.line_tape.specs.History.{fresh};
 ghost use Rattle.line_tape.specs.Line.{IsLine};
 ghost use Rattle.line_tape.specs.Restart.{restarted_history};
 ghost use Rattle.line_tape.specs.Transit.{in_transit, in_transit_between};
 ghost use Rattle.line_turns.specs.Tables.{between};
-ghost use Rattle.line_moves.specs.Modes.{copies_in, IsFitIn};
+ghost use Rattle.line_moves.specs.Modes.{copies_in};
 ghost use Rattle.line_moves.specs.Worlds.{AreQueues};
 ghost use Rattle.line_world.specs.Protocols.{mode_of, open_round_of, IsFollowing};
 
@@ -54,46 +52,6 @@ impl Protocol {
                 colours: Colours::new(alloc, n)?,
                 received: ReceivedSends::new(alloc, n)?,
             }),
-        }
-    }
-
-    /// The kind of links that it is for.
-    pub(crate) fn mode(&self) -> Mode
-        ensures { result ≡ mode_of self.now }
-    {
-        match self {
-            Protocol::Markers { .. } => Mode::Fifo,
-            Protocol::Colours { .. } => Mode::Unordered,
-        }
-    }
-
-    /// Whether a round is open.
-    pub(crate) fn is_open(&self) -> bool
-        ensures { result ≡ is_some (open_round_of self.now) }
-    {
-        match self {
-            Protocol::Markers { running } => running.is_some(),
-            Protocol::Colours { turning, .. } => turning.is_some(),
-        }
-    }
-
-    /// Makes room for the flag of what a process sends next, if sends have flags.
-    pub(crate) fn reserve_flag(&mut self, history: &History, from: ProcId) -> Result<(), AllocError>
-        requires from { from < length history.now.processes }
-        requires fit { IsFitIn (mode_of self.old) history.now.processes }
-        requires following { IsFollowing history.now.processes self.old }
-        ensures mode { mode_of self.new ≡ mode_of self.old }
-        ensures opened { open_round_of self.new ≡ open_round_of self.old }
-        ensures same { IsFollowing history.now.processes self.new }
-        ensures ok { OnOk result ((to : ℕ) (body : List ℕ) → IsFollowing
-            (with_event history.now.processes from
-            (Send to (incarnation_at history.now.processes from) body)) self.new) }
-    {
-        match self {
-            Protocol::Markers { .. } => Ok(()),
-            Protocol::Colours { received, .. } => {
-                received.reserve(from, history.tape(from).sends())
-            }
         }
     }
 

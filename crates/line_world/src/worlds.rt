@@ -23,7 +23,8 @@ use line_moves::{Links, Listing, Round, add_check, put_message};
 use line_names::{MOST_BODY, MOST_PROCESSES, ProcId, ProcSet};
 use line_plan::Plan;
 use line_steps::{Mode, Step, StepRef};
-use line_tape::{CountError, History, Item, Marks, State};
+use line_tape::{CountError, History, Item, MOST_STATE, Marks, State};
+use refusals::lacks_room;
 use std::alloc::Global;
 use std::marker::Model;
 
@@ -158,11 +159,21 @@ impl World {
         ensures unrefused { IsErrOf result StepError.OutOfMemory
             → refusal_of self.old (Send from to body.now) ≡ None }
     {
-        if let Some(e) = self.send_refusal(from, to) {
-            return Err(e);
-        }
         let history = self.catalogue.history();
-        self.protocol.reserve_flag(history, from)?;
+        let n = history.n();
+        if from.get() >= n || to.get() >= n {
+            return Err(StepError::NoSuchProcess);
+        }
+        if from == to {
+            return Err(StepError::ToSelf);
+        }
+        if lacks_room(history, from, 1) {
+            return Err(StepError::TapeFull);
+        }
+        // Where links keep no order, the flag of this send has room.
+        if let Protocol::Colours { received, .. } = &mut self.protocol {
+            received.reserve(from, history.tape(from).sends())?;
+        }
         let message = put_message(&mut self.catalogue, &mut self.links, from, to, body)?;
         Ok(Reply::Sent { message })
     }
@@ -178,8 +189,15 @@ impl World {
         ensures unrefused { IsErrOf result StepError.OutOfMemory
             → refusal_of self.old (Check at state.now) ≡ None }
     {
-        if let Some(e) = self.check_refusal(at, state) {
-            return Err(e);
+        let history = self.catalogue.history();
+        if at.get() >= history.n() {
+            return Err(StepError::NoSuchProcess);
+        }
+        if state.len() > MOST_STATE {
+            return Err(StepError::StateTooLong);
+        }
+        if lacks_room(history, at, 1) {
+            return Err(StepError::TapeFull);
         }
         let bytes = Vec::from_slice(alloc, state)?;
         let check = add_check(&mut self.catalogue, at, State::of(bytes))?;
@@ -237,7 +255,7 @@ impl World {
         ensures others { IfErr result
             (λ e. (e ≡ StepError.NoSuchProcess) ⊎ (e ≡ StepError.OutOfMemory)) }
     {
-        if self.has_stranger(failed) {
+        if !failed.is_below(self.catalogue.n()) {
             return Err(StepError::NoSuchProcess);
         }
         let plan = line_plan::plan(alloc, &self.catalogue, failed)?;

@@ -1,6 +1,6 @@
 //! How a world delivers what is on a link.
 ghost use Rattle.std.specs.Prelude.{◌≡◌, ◌≢◌, ◌<◌, Some, None, length, slice_get, IfOk, IfErr};
-ghost use Rattle.std.specs.Prelude.{IsErrOf, OnOk};
+ghost use Rattle.std.specs.Prelude.{IsErrOf};
 ghost use Rattle.line_tape.specs.declared.items.Item.TheVariants.{Message, Marker};
 ghost use Rattle.line_tape.specs.Event.{Holds};
 ghost use Rattle.line_tape.specs.Fit.{IsSentTo};
@@ -10,12 +10,10 @@ ghost use Rattle.line_moves.specs.declared.fates.Fate.TheVariants.{Taken};
 ghost use Rattle.line_steps.specs.declared.modes.Mode.TheVariants.{Fifo, Unordered};
 ghost use Rattle.line_moves.specs.Fates.{fate_of, forced_round};
 ghost use Rattle.line_world.specs.declared.replies.Answer.TheVariants.{Done, Refused};
-ghost use Rattle.line_world.specs.declared.replies.Reply.TheVariants.{Took, Marked};
 ghost use Rattle.line_steps.specs.declared.steps.Step.TheVariants.{Deliver};
 ghost use Rattle.line_world.specs.Machine.{items_on};
 ghost use Rattle.line_world.specs.Refusals.{first_cause, link_causes, refusal_of};
 ghost use Rattle.line_world.specs.Runs.{Takes};
-ghost use Rattle.line_world.specs.Steps.{reply_of};
 
 use super::World;
 use super::refusals::lacks_room;
@@ -50,20 +48,6 @@ fn fate_of(history: &History, received: &ReceivedSends, _to: ProcId, message: &M
 }
 
 impl World {
-    /// The item at a place of a link.
-    fn item_at(&self, from: ProcId, to: ProcId, pick: u64) -> Item
-        requires from { from < length self.now.history }
-        requires to { to < length self.now.history }
-        requires other { from ≢ to }
-        requires pick { pick < length (items_on self.now from to) }
-        ensures { slice_get (items_on self.now from to) pick ≡ Some result }
-    {
-        match self.links.item(from, to, pick as usize) {
-            Some(item) => item,
-            None => unreachable!(),
-        }
-    }
-
     /// Takes the message that is first on a link that keeps its order.
     fn take_first(
         &mut self,
@@ -72,13 +56,13 @@ impl World {
         _pick: u64,
         _state: &[u8],
         message: &MsgName,
-    ) -> Result<(), StepError>
+    ) -> Result<Reply, StepError>
         requires passed { first_cause (link_causes self.old from to _pick _state.now) ≡ None }
         requires picked { slice_get (items_on self.old from to) _pick
             ≡ Some (Message message.now) }
         requires fifo { self.old.mode ≡ Fifo }
-        ensures done { OnOk result (Takes self.old (Deliver from to _pick _state.now)
-            (Done (Took message.now None)) self.new) }
+        ensures done { IfOk result
+            (λ reply. Takes self.old (Deliver from to _pick _state.now) (Done reply) self.new) }
         ensures refused { IfErr result (λ e. e ≢ StepError.OutOfMemory
             → Takes self.old (Deliver from to _pick _state.now) (Refused e) self.new) }
         ensures memory { IsErrOf result StepError.OutOfMemory → self.new ≡ self.old }
@@ -98,7 +82,10 @@ impl World {
                     to,
                     message,
                 )?;
-                Ok(())
+                Ok(Reply::Took {
+                    message: *message,
+                    forced: None,
+                })
             }
             Protocol::Colours { .. } => unreachable!(),
         }
@@ -112,15 +99,15 @@ impl World {
         _pick: u64,
         _state: &[u8],
         message: &MsgName,
-    ) -> Result<(), StepError>
+    ) -> Result<Reply, StepError>
         requires passed { first_cause (link_causes self.old _from to _pick _state.now) ≡ None }
         requires picked { slice_get (items_on self.old _from to) _pick
             ≡ Some (Message message.now) }
         requires unordered { self.old.mode ≡ Unordered }
         requires taken { fate_of Unordered self.old.history to message.now ≡ Taken }
         requires unforced { forced_round Unordered self.old.history to message.now ≡ None }
-        ensures done { OnOk result (Takes self.old (Deliver _from to _pick _state.now)
-            (Done (Took message.now None)) self.new) }
+        ensures done { IfOk result
+            (λ reply. Takes self.old (Deliver _from to _pick _state.now) (Done reply) self.new) }
         ensures refused { IfErr result (λ e. e ≢ StepError.OutOfMemory
             → Takes self.old (Deliver _from to _pick _state.now) (Refused e) self.new) }
         ensures memory { IsErrOf result StepError.OutOfMemory → self.new ≡ self.old }
@@ -135,7 +122,10 @@ impl World {
                 }
                 take_copy(&mut self.catalogue, to, message)?;
                 received.receive(message);
-                Ok(())
+                Ok(Reply::Took {
+                    message: *message,
+                    forced: None,
+                })
             }
         }
     }
@@ -150,15 +140,15 @@ impl World {
         state: &[u8],
         message: &MsgName,
         round: u32,
-    ) -> Result<(), StepError>
+    ) -> Result<Reply, StepError>
         requires passed { first_cause (link_causes self.old _from to _pick state.now) ≡ None }
         requires picked { slice_get (items_on self.old _from to) _pick
             ≡ Some (Message message.now) }
         requires unordered { self.old.mode ≡ Unordered }
         requires taken { fate_of Unordered self.old.history to message.now ≡ Taken }
         requires forced { forced_round Unordered self.old.history to message.now ≡ Some round }
-        ensures done { OnOk result (Takes self.old (Deliver _from to _pick state.now)
-            (Done (Took message.now (Some round))) self.new) }
+        ensures done { IfOk result
+            (λ reply. Takes self.old (Deliver _from to _pick state.now) (Done reply) self.new) }
         ensures refused { IfErr result (λ e. e ≢ StepError.OutOfMemory
             → Takes self.old (Deliver _from to _pick state.now) (Refused e) self.new) }
         ensures memory { IsErrOf result StepError.OutOfMemory → self.new ≡ self.old }
@@ -188,13 +178,15 @@ impl World {
                 )?;
                 add_receipt(&mut self.catalogue, to, message);
                 received.receive(message);
-                Ok(())
+                Ok(Reply::Took {
+                    message: *message,
+                    forced: Some(round),
+                })
             }
         }
     }
 
     /// Takes the message that stands at a place of a link, or finds its copy stale or repeated.
-    /// Answers what became of it, and the round of the check that it forced.
     fn deliver_message(
         &mut self,
         alloc: Global,
@@ -203,12 +195,12 @@ impl World {
         pick: u64,
         state: &[u8],
         message: &MsgName,
-    ) -> Result<(Fate, Option<u32>), StepError>
+    ) -> Result<Reply, StepError>
         requires passed { first_cause (link_causes self.old from to pick state.now) ≡ None }
         requires picked { slice_get (items_on self.old from to) pick
             ≡ Some (Message message.now) }
-        ensures done { IfOk result (λ told. Takes self.old (Deliver from to pick state.now)
-            (Done (reply_of told.0 told.1 message.now)) self.new) }
+        ensures done { IfOk result
+            (λ reply. Takes self.old (Deliver from to pick state.now) (Done reply) self.new) }
         ensures refused { IfErr result (λ e. e ≢ StepError.OutOfMemory
             → Takes self.old (Deliver from to pick state.now) (Refused e) self.new) }
         ensures memory { IsErrOf result StepError.OutOfMemory → self.new ≡ self.old }
@@ -217,26 +209,17 @@ impl World {
     {
         let _n = self.catalogue.n();
         match &self.protocol {
-            Protocol::Markers { .. } => {
-                self.take_first(from, to, pick, state, message)?;
-                Ok((Fate::Taken, None))
-            }
+            Protocol::Markers { .. } => self.take_first(from, to, pick, state, message),
             Protocol::Colours {
                 colours,
                 received,
                 ..
             } => match fate_of(self.catalogue.history(), received, to, message) {
-                Fate::Stale => Ok((Fate::Stale, None)),
-                Fate::Repeated => Ok((Fate::Repeated, None)),
+                Fate::Stale => Ok(Reply::Stale { message: *message }),
+                Fate::Repeated => Ok(Reply::Repeated { message: *message }),
                 Fate::Taken => match colours.before_receive(to, message) {
-                    None => {
-                        self.take_unforced(from, to, pick, state, message)?;
-                        Ok((Fate::Taken, None))
-                    }
-                    Some(round) => {
-                        self.take_forced(alloc, from, to, pick, state, message, round)?;
-                        Ok((Fate::Taken, Some(round)))
-                    }
+                    None => self.take_unforced(from, to, pick, state, message),
+                    Some(round) => self.take_forced(alloc, from, to, pick, state, message, round),
                 },
             },
         }
@@ -252,11 +235,11 @@ impl World {
         pick: u64,
         state: &[u8],
         round: u32,
-    ) -> Result<bool, StepError>
+    ) -> Result<Reply, StepError>
         requires passed { first_cause (link_causes self.old from to pick state.now) ≡ None }
         requires picked { slice_get (items_on self.old from to) pick ≡ Some (Marker round) }
-        ensures done { IfOk result (λ forced. Takes self.old (Deliver from to pick state.now)
-            (Done (Marked round forced)) self.new) }
+        ensures done { IfOk result
+            (λ reply. Takes self.old (Deliver from to pick state.now) (Done reply) self.new) }
         ensures refused { IfErr result (λ e. e ≢ StepError.OutOfMemory
             → Takes self.old (Deliver from to pick state.now) (Refused e) self.new) }
         ensures memory { IsErrOf result StepError.OutOfMemory → self.new ≡ self.old }
@@ -284,7 +267,7 @@ impl World {
                 )?;
                 let history = self.catalogue.history();
                 list_completed(alloc, running, history, &mut self.rounds);
-                Ok(forced)
+                Ok(Reply::Marked { round, forced })
             }
             // Links without an order hold no markers.
             Protocol::Colours { .. } => unreachable!(),
@@ -312,20 +295,12 @@ impl World {
             return Err(e);
         }
         let _n = self.catalogue.n();
-        let item = self.item_at(from, to, pick);
-        match item {
-            Item::Message(message) => {
-                let (fate, forced) = self.deliver_message(alloc, from, to, pick, state, &message)?;
-                match fate {
-                    Fate::Taken => Ok(Reply::Took { message, forced }),
-                    Fate::Stale => Ok(Reply::Stale { message }),
-                    Fate::Repeated => Ok(Reply::Repeated { message }),
-                }
+        match self.links.item(from, to, pick as usize) {
+            Some(Item::Message(message)) => {
+                self.deliver_message(alloc, from, to, pick, state, &message)
             }
-            Item::Marker(round) => {
-                let forced = self.deliver_marker(alloc, from, to, pick, state, round)?;
-                Ok(Reply::Marked { round, forced })
-            }
+            Some(Item::Marker(round)) => self.deliver_marker(alloc, from, to, pick, state, round),
+            None => unreachable!(),
         }
     }
 }

@@ -1,17 +1,16 @@
 //! What refuses a step of a world.
-ghost use Rattle.std.specs.Prelude.{◌≡◌, ◌≢◌, ◌<◌, ◌≤◌, ◌+◌, ℕ, List, Some, length, nat_lt};
+ghost use Rattle.std.specs.Prelude.{◌≡◌, ◌≢◌, ◌<◌, ◌≤◌, ◌+◌, length, nat_lt};
 ghost use Rattle.line_tape.specs.History.{tape_at};
 ghost use Rattle.line_steps.specs.declared.modes.Mode.TheVariants.{Unordered};
-ghost use Rattle.line_steps.specs.declared.steps.Step.TheVariants.{Send, Check, Begin, Turn};
-ghost use Rattle.line_world.specs.Refusals.{first_cause, link_causes, may_turn, refusal_of};
-ghost use Rattle.line_world.specs.Refusals.{has_stranger, is_bad_pick};
+ghost use Rattle.line_steps.specs.declared.steps.Step.TheVariants.{Begin, Turn};
 ghost use Rattle.line_world.specs.Machine.{is_open, items_on};
+ghost use Rattle.line_world.specs.Refusals.{first_cause, is_bad_pick, link_causes, may_turn};
+ghost use Rattle.line_world.specs.Refusals.{refusal_of};
 
 use super::World;
 use crate::protocols::Protocol;
 use crate::replies::StepError;
-use line_names::{ProcId, ProcSet};
-use line_steps::Mode;
+use line_names::ProcId;
 use line_tape::{History, LAST_ROUND, MOST_EVENTS, MOST_STATE};
 
 /// Whether the tape of a process has no room for so many more events.
@@ -24,23 +23,6 @@ pub(super) fn lacks_room(history: &History, p: ProcId, events: usize) -> bool
 }
 
 impl World {
-    /// Why a process may not send to another now.
-    pub(super) fn send_refusal(&self, from: ProcId, to: ProcId) -> Option<StepError>
-        ensures { (body : List ℕ) → result ≡ refusal_of self.now (Send from to body) }
-    {
-        let n = self.catalogue.n();
-        if from.get() >= n || to.get() >= n {
-            return Some(StepError::NoSuchProcess);
-        }
-        if from == to {
-            return Some(StepError::ToSelf);
-        }
-        if lacks_room(self.catalogue.history(), from, 1) {
-            return Some(StepError::TapeFull);
-        }
-        None
-    }
-
     /// Whether the link between two processes has nothing to take at a place.
     fn is_bad_pick(&self, from: ProcId, to: ProcId, pick: u64) -> bool
         requires from { from < length self.now.history }
@@ -48,9 +30,9 @@ impl World {
         requires other { from ≢ to }
         ensures { result ≡ is_bad_pick self.now.mode (items_on self.now from to) pick }
     {
-        match self.protocol.mode() {
-            Mode::Fifo => pick != 0,
-            Mode::Unordered => pick >= self.links.len(from, to) as u64,
+        match &self.protocol {
+            Protocol::Markers { .. } => pick != 0,
+            Protocol::Colours { .. } => pick >= self.links.len(from, to) as u64,
         }
     }
 
@@ -83,27 +65,14 @@ impl World {
         None
     }
 
-    /// Why a process may not take a check now.
-    pub(super) fn check_refusal(&self, at: ProcId, state: &[u8]) -> Option<StepError>
-        ensures { result ≡ refusal_of self.now (Check at state.now) }
-    {
-        if at.get() >= self.catalogue.n() {
-            return Some(StepError::NoSuchProcess);
-        }
-        if state.len() > MOST_STATE {
-            return Some(StepError::StateTooLong);
-        }
-        if lacks_room(self.catalogue.history(), at, 1) {
-            return Some(StepError::TapeFull);
-        }
-        None
-    }
-
     /// Whether the last round begun is on a tape and not completed.
     fn is_open(&self) -> bool
         ensures { result ≡ is_open self.now }
     {
-        self.protocol.is_open()
+        match &self.protocol {
+            Protocol::Markers { running } => running.is_some(),
+            Protocol::Colours { turning, .. } => turning.is_some(),
+        }
     }
 
     /// Why a process may not begin a round now.
@@ -150,9 +119,9 @@ impl World {
         if at.get() >= self.catalogue.n() {
             return Some(StepError::NoSuchProcess);
         }
-        if self.protocol.mode().is_fifo() {
+        let Protocol::Colours { .. } = &self.protocol else {
             return Some(StepError::WrongMode);
-        }
+        };
         if state.len() > MOST_STATE {
             return Some(StepError::StateTooLong);
         }
@@ -163,12 +132,5 @@ impl World {
             return Some(StepError::TapeFull);
         }
         None
-    }
-
-    /// Whether a member of the set is no process.
-    pub(super) fn has_stranger(&self, failed: &ProcSet) -> bool
-        ensures { result ≡ has_stranger self.now failed.now }
-    {
-        !failed.is_below(self.catalogue.n())
     }
 }

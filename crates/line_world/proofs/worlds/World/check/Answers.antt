@@ -1,5 +1,6 @@
 -- No queue changes, and no link does; and no round is completed.
 use Rattle.std.proofs.Common.{◌≡◌, ◌<◌, ℕ, List, [], ◌∷◌, None, refl, sym, subst, ap, ◌∙◌, length, arith, Option}
+use Rattle.std.proofs.lemmas.Grind.{common_steps}
 use Rattle.line_tape.specs.declared.events.Event.{Event}
 use Rattle.line_tape.specs.declared.events.Event.TheVariants.{Check as CheckEvent}
 use Rattle.line_tape.specs.History.{Process, with_event}
@@ -17,7 +18,6 @@ use Rattle.line_world.specs.declared.worlds.World.TheInside.{Inside}
 use Rattle.line_world.specs.Protocols.{mode_of, open_round_of}
 use Rattle.line_world.proofs.KnownFacts.{kept_with}
 use Rattle.line_world.proofs.PaintLemmas.{IsFollowing-check}
-use Rattle.line_world.proofs.StepLemmas.{may_check}
 use Rattle.line_moves.proofs.WorldLemmas.{IsWorld-check}
 use Rattle.line_world.proofs.SeenLemmas.{seen}
 use Rattle.line_world.proofs.worlds.World.check.Goals as goal
@@ -26,11 +26,10 @@ pub invariant_of-self-2 : goal.invariant_of-self-2
 invariant_of-self-2 c =
     let w : Inside = c.self.inside in
     let running : Option OpenView = open_round_of w.protocol in
-    let may = may_check c.args.self.now c.args.at c.args.state.now (sym c.check_refusal.ensures ∙ c.in_default.is) in
     let history : List Process = w.catalogue.processes in
     let mode : Mode = mode_of w.protocol in
     let e : Event = CheckEvent c.of.result None in
-    let within : c.args.at < length history = omega (arith, may.within, ap (λ (m : Machine). length m.history) c.self.view_is) in
+    let within : c.args.at < length history = omega (arith, ap (λ (h : List Process). length h) c.history-history.ensures.processes) in
     kept_with mode running w.protocol refl refl c.add_check.new.catalogue.processes (with_event history c.args.at e) c.in_ok-check.ensures.checked w.links w.last_round w.rounds.items
     (IsWorld-check history w.links mode c.self.invariant.0 c.args.at c.of.result within)
     (AreRounds-kept history c.args.at e within (λ r. refl) (λ r p. refl) mode w.last_round running running w.rounds.items refl
@@ -39,14 +38,13 @@ invariant_of-self-2 c =
 
 pub returns-clause-done : goal.returns-clause-done
 returns-clause-done c =
-    let none : refusal_of c.args.self.now (Check c.args.at c.args.state.now) ≡ None = sym c.check_refusal.ensures ∙ c.in_default.is in
-    let may = may_check c.args.self.now c.args.at c.args.state.now none in
+    let none : refusal_of c.args.self.now (Check c.args.at c.args.state.now) ≡ None = grind (arith, common_steps) in
     let history : List Process = c.self.inside.catalogue.processes in
     let mode : Mode = mode_of c.self.inside.protocol in
     let last : ℕ = c.self.inside.last_round in
     let rounds : List ListedRound = c.self.inside.rounds.items in
     let e : Event = CheckEvent c.args.state.now None in
-    let within : c.args.at < length history = omega (arith, may.within, ap (λ (m : Machine). length m.history) c.self.view_is) in
+    let within : c.args.at < length history = omega (arith, ap (λ (h : List Process). length h) c.history-history.ensures.processes) in
     let after : Machine = seen mode c.add_check.new.catalogue.processes c.add_check.new.catalogue.marks last rounds c.self.inside.links in
     let done : c.add_check.new.catalogue.processes ≡ with_event history c.args.at e = c.in_ok-check.ensures.checked ∙ ap (λ (bytes : List ℕ). with_event history c.args.at (CheckEvent bytes None)) (c.of.ensures ∙ c.in_ok-bytes.ensures.items) in (
       none,
