@@ -1,5 +1,5 @@
 -- What is known of a step that no cause refuses, and of one that is refused.
-use Rattle.std.proofs.Common.{◌≡◌, ◌≢◌, ℕ, ◌+◌, ◌<◌, ◌≤◌, Bool, true, false, cond, List, length, Option, Some, None, refl, sym, ap, ◌∙◌, subst, arith}
+use Rattle.std.proofs.Common.{◌≡◌, ◌≢◌, ℕ, ◌+◌, ◌<◌, ◌≤◌, Bool, true, false, cond, List, length, Option, Some, None, refl, ap, ◌∙◌, subst, arith}
 use Rattle.std.specs.Prelude.{◌||◌, ◌&&◌, ◌==◌, not, nat_le, slice_get}
 use Rattle.std.proofs.lemmas.Bool.{or_parts, leb-false, ltb-false, eqb-true, eqb-false, not-false}
 use Rattle.line_tape.specs.declared.items.Item.{Item}

@@ -1,5 +1,5 @@
 -- No queue changes, and no link does; and no round is completed.
-use Rattle.std.proofs.Common.{◌≡◌, ◌<◌, ℕ, List, [], ◌∷◌, None, refl, sym, subst, ap, ◌∙◌, length, arith, Option}
+use Rattle.std.proofs.Common.{◌≡◌, ◌<◌, ℕ, List, [], ◌∷◌, None, refl, subst, ap, ◌∙◌, length, arith, Option}
 use Rattle.std.proofs.lemmas.Grind.{common_steps}
 use Rattle.line_tape.specs.declared.events.Event.{Event}
 use Rattle.line_tape.specs.declared.events.Event.TheVariants.{Check as CheckEvent}

@@ -1,5 +1,5 @@
 -- The queue is what the link holds, and it has an item at the place that is picked.
-use Rattle.std.proofs.Common.{◌≡◌, List, None, Some, sym, ap, ◌∙◌}
+use Rattle.std.proofs.Common.{◌≡◌, List, Some, sym, ap, ◌∙◌}
 use Rattle.std.specs.Prelude.{slice_get}
 use Rattle.line_tape.specs.declared.items.Item.{Item}
 use Rattle.line_world.specs.Machine.{items_on}
