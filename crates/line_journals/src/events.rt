@@ -1,17 +1,10 @@
-//! Checks as events, and the check of a round on a tape.
-ghost use Rattle.std.specs.Prelude.{◌≡◌, Some, None};
+//! The check of a round: as an event, and on a tape.
+ghost use Rattle.std.specs.Prelude.{◌≡◌, Some};
 ghost use Rattle.line_tape.specs.declared.events.Event.TheVariants.{Check};
 ghost use Rattle.line_tape.specs.Rounds.{has_check_of, is_check_of};
 ghost use Rattle.line_tape.specs.Shown.{event_of_ref};
 
 use line_tape::{Event, EventRef, State, Tape};
-
-/// A check of no round.
-pub(crate) fn check_event(state: State) -> Event
-    ensures { result ≡ Check state None }
-{
-    Event::Check { state, round: None }
-}
 
 /// The check of a round.
 pub(crate) fn round_event(state: State, round: u32) -> Event

@@ -8,10 +8,10 @@ ghost use Rattle.line_tape.specs.Event.{sends};
 ghost use Rattle.line_tape.specs.Rounds.{has_check_of, rounds_checked};
 ghost use Rattle.line_journals.specs.Journals.{rounds_by, IsOpen, IsRecorded, IsSameJournal};
 
-use crate::events::{check_event, has_check, round_event};
+use crate::events::{has_check, round_event};
 use line_marker::Marker;
 use line_names::{Body, MsgName, ProcId};
-use line_tape::{MOST_EVENTS, MOST_STATE, State, Tape};
+use line_tape::{Event, MOST_EVENTS, MOST_STATE, State, Tape};
 use std::alloc::{AllocError, Global};
 use std::marker::Model;
 
@@ -28,27 +28,20 @@ fn reserve_ahead(tape: &mut Tape)
     let _ = tape.reserve(EVENTS_AHEAD);
 }
 
-/// Makes room for many further events where no call is left that does without.
-fn look_ahead(tape: &mut Tape, calls: &mut u32)
-    ensures same { tape.new.events ≡ tape.old.events }
-    ensures room { tape.old.room ≤ tape.new.room }
-{
-    if *calls > 0 {
-        *calls -= 1;
-        return;
-    }
-    *calls = EVENTS_AHEAD - 1;
-    reserve_ahead(tape);
-}
-
-/// Makes room on a tape for so many further events, and now and then for many.
+/// Makes room on a tape for so many further events, and for many where no call is left that does
+/// without.
 fn reserve_on(tape: &mut Tape, calls: &mut u32, k: u32) -> Result<(), AllocError>
     ensures same { tape.new.events ≡ tape.old.events }
     ensures ok { OnOk result (k ≤ tape.new.room) }
     ensures succeeds { k ≤ tape.old.room → IsOk result }
     ensures room { tape.old.room ≤ tape.new.room }
 {
-    look_ahead(tape, calls);
+    if *calls > 0 {
+        *calls -= 1;
+    } else {
+        *calls = EVENTS_AHEAD - 1;
+        reserve_ahead(tape);
+    }
     tape.reserve(k)
 }
 
@@ -230,8 +223,7 @@ impl Journal {
         ensures same { IsSameJournal self.old self.new }
         ensures spent { (self.old.room ≤ self.new.room + 1) × (self.new.ready ≡ self.old.ready) }
     {
-        let event = check_event(state);
-        self.tape.append(event);
+        self.tape.append(Event::Check { state, round: None });
     }
 
     /// A message was received. Each recorded round whose channel from its sender is not closed has

@@ -1,5 +1,4 @@
-use Rattle.std.proofs.Common.{◌∙◌, ◌++◌, ◌∷◌, [], refl, ap}
-use Rattle.line_tape.specs.declared.events.Event.{Event}
+use Rattle.std.proofs.Common.{refl}
 use Rattle.line_journals.proofs.MarkerLemmas.{journal_next}
 use Rattle.line_journals.proofs.journals.Journal.check.Goals as goal
 
@@ -7,5 +6,4 @@ pub invariant_of-self : goal.invariant_of-self
 invariant_of-self c =
     let t = c.self.inside.tape.events in
     let m = c.self.inside.marker in
-    let pushed = c.append.ensures.events in
-    journal_next m m _ t _ _ c.self.invariant tt (record { n_is = refl; me_is = refl; floor_is = refl }) (pushed ∙ ap (λ (e : Event). t ++ e ∷ []) c.check_event-event.ensures) refl
+    journal_next m m _ t _ _ c.self.invariant tt (record { n_is = refl; me_is = refl; floor_is = refl }) c.append.ensures.events refl
