@@ -1,6 +1,5 @@
 -- What a worker has seen after a look at a ring, and why it takes nothing then.
-use Rattle.std.proofs.Common.{cond, true, false, Bool, ◌≡◌, ◌∙◌, ◌+◌, ◌<◌, ◌≤◌, ◌++◌, ◌∷◌, [], ℕ, List, suc, length, refl, sym, ap, subst, arith}
-use Rattle.std.specs.Prelude.{Result, Ok, Err, OnErr, is_err}
+use Rattle.std.proofs.Common.{cond, false, Bool, ◌≡◌, ◌∙◌, ◌+◌, ◌<◌, ◌≤◌, ◌++◌, ◌∷◌, [], ℕ, List, suc, length, refl, sym, ap, subst, arith}
 use mathlib.Core.List.{IsPrefix}
 use Rattle.std.specs.declared.alloc.Global.{Global}
 use Rattle.std.specs.declared.vec.Vec.{Vec}
@@ -30,14 +29,6 @@ sees_via old now ends rows e h = subst (λ (t : PostView). SeesOn t.ins t.seen e
 
 pub sees_here : (ends : List (End Parcel)) (rows : List (List Parcel)) → SeesOn ends rows ends rows
 sees_here ends rows p = ([], sym (append-nil (items_at ends p)), prefix_self (row_at rows p))
-
-prefix_none : {X : Type 0} (xs ys : List X) → IsPrefix xs ys → ys ≡ [] → xs ≡ []
-prefix_none [] ys h e = refl
-prefix_none (x ∷ xs) ys (t, h) e = (let both = h ∙ e in cc both)
-
--- nothing was seen of a ring that shows nothing
-pub shows_none : (rows : List (List Parcel)) (ins : List (Consumer Parcel Global AnyItems)) (at p : ℕ) → at ≡ p → StillKnow rows ins → known_at ins at ≡ [] → row_at rows p ≡ []
-shows_none rows ins at p e know none = prefix_none (row_at rows p) (known_at ins p) (know p) (subst (λ (x : ℕ). known_at ins x ≡ []) e none)
 
 begins_message : (xs : List Parcel) → BeginsWithMessage xs → (packet : Packet) × (rest : List Parcel) × (xs ≡ Message packet ∷ rest)
 begins_message [] b = absurd b
@@ -105,7 +96,3 @@ full_replay post shown from state may some many = (let (packet, next) = replay_n
 
 pub lack_replay : (post : PostView) (shown : List Parcel) (from : ℕ) (state : List ℕ) → MayReceive post from state → 0 < length (row_at post.kept from) → length post.tape < MOST_EVENTS → IsNotReceived post shown from state OutOfMemory
 lack_replay post shown from state may some few = (let (packet, next) = replay_next post shown from (row_at post.kept from) refl some in (may, Message packet, next, omega (arith, few)))
-
-pub err_part : {T E : Type 0} (r : Result T E) (P : Type 0) → is_err r ≡ true → OnErr r P → P
-err_part (Ok x) P e p = cc e
-err_part (Err x) P e p = p

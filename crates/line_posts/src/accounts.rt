@@ -66,20 +66,6 @@ fn meet_all(posts: &mut Vec<Post>)
     posts.push_reserved(last);
 }
 
-/// Whether they are one for each process, in order.
-fn are_in_order(posts: &Vec<Post>) -> bool
-    ensures order { IsTrue result ↔ AreInOrder posts.now.items }
-    ensures known { IsTrue result → ArePosts posts.now.items }
-{
-    for p in 0..posts.len() {
-        let post = &posts[p];
-        if post.number() as usize != p || post.n() != posts.len() {
-            return false;
-        }
-    }
-    true
-}
-
 /// Whether the workers are one for each process, in order; then what each received of each other,
 /// and what it keeps and what is on the way, is what the other sent.
 pub(crate) fn account(posts: &mut Vec<Post>) -> bool
@@ -90,8 +76,11 @@ pub(crate) fn account(posts: &mut Vec<Post>) -> bool
     ensures fit { IsTrue result → IsFitFifo (own_history posts.old.items) }
     ensures known { IsTrue result → ArePosts posts.old.items }
 {
-    if !are_in_order(posts) {
-        return false;
+    for p in 0..posts.len() {
+        let post = &posts[p];
+        if post.number() as usize != p || post.n() != posts.len() {
+            return false;
+        }
     }
     meet_all(posts);
     true

@@ -142,10 +142,10 @@ pub(crate) fn open_all(alloc: Global, history: &History, prepared: Prepared) -> 
     Opened { posts, lines }
 }
 
-/// The journals of `n` workers that have done nothing yet.
-fn fresh_journals(alloc: Global, n: u32) -> Result<Vec<Journal>, AllocError>
+/// All that `n` workers of a first generation take memory for.
+fn prepare_fresh(alloc: Global, n: u32, capacity: usize) -> Result<Prepared, AllocError>
     requires { n ≤ MOST_PROCESSES }
-    ensures { IfOk result (λ journals. AreJournals (replicate n fresh) 0 journals.items) }
+    ensures { IfOk result (λ prepared. IsPrepared (replicate n fresh) 0 capacity prepared) }
 {
     let mut journals = Vec::with_capacity(alloc, n as usize)?;
     for q in 0..n {
@@ -154,15 +154,6 @@ fn fresh_journals(alloc: Global, n: u32) -> Result<Vec<Journal>, AllocError>
         let journal = Journal::new(alloc, n, me, tape, 0)?;
         journals.push(journal)?;
     }
-    Ok(journals)
-}
-
-/// All that `n` workers of a first generation take memory for.
-fn prepare_fresh(alloc: Global, n: u32, capacity: usize) -> Result<Prepared, AllocError>
-    requires { n ≤ MOST_PROCESSES }
-    ensures { IfOk result (λ prepared. IsPrepared (replicate n fresh) 0 capacity prepared) }
-{
-    let journals = fresh_journals(alloc, n)?;
     let replays = no_packets_yet(alloc, n)?;
     prepare(alloc, journals, replays, capacity)
 }

@@ -14,7 +14,6 @@ ghost use Rattle.line_posts.specs.Posts.{PostView};
 ghost use Rattle.line_posts.specs.Refusals.{IsNotSent, MaySend};
 ghost use Rattle.line_posts.specs.Generations.{IsSamePost};
 ghost use Rattle.line_posts.specs.Openings.{IsOpening};
-ghost use Rattle.line_posts.specs.declared.parcels.Parcel.TheVariants.{Message};
 
 use crate::parcels::{Packet, Parcel};
 use crate::refusals::{SendRefused, SendWhy};
@@ -79,15 +78,6 @@ pub(crate) fn message_name(from: ProcId, inc: u16, number: u32) -> MsgName
     ensures { result ≡ record { from = from; inc = inc; number = number } }
 {
     MsgName { from, inc, number }
-}
-
-/// A message as rings carry it.
-fn message(inc: u16, number: u32, body: Body) -> Parcel
-    ensures { result ≡ Message (record { inc = inc; number = number; body = body }) }
-{
-    Parcel::Message {
-        packet: Packet { inc, number, body },
-    }
 }
 
 /// Tests whether a worker can send a message to another process now, and makes room for it on the
@@ -234,7 +224,9 @@ impl Post {
         let inc = self.incarnation;
         let number = self.journal.sends();
         self.journal.send(to, inc, &body);
-        let parcel = message(inc, number, body);
+        let parcel = Parcel::Message {
+            packet: Packet { inc, number, body },
+        };
         push_known(&mut self.outs, to.get() as usize, parcel);
         Ok(message_name(self.me, inc, number))
     }

@@ -10,7 +10,6 @@ ghost use Rattle.line_tape.specs.Shown.{event_of_ref};
 ghost use Rattle.line_tape.specs.Transit.{in_transit, in_transit_between};
 ghost use Rattle.line_tape.specs.declared.items.Item.TheVariants.{Message};
 ghost use Rattle.line_rings.specs.Ends.{row_at};
-ghost use Rattle.line_posts.specs.Gathering.{rows_of};
 ghost use Rattle.line_posts.specs.Openings.{parcels_left, ArePlain};
 ghost use Rattle.line_posts.specs.Parcels.{items_of_parcels, parcels_of, parcels_sent};
 ghost use Rattle.line_posts.specs.Preparations.{AreJournals};
@@ -26,20 +25,13 @@ use line_tape::{EventRef, History, Tape};
 use std::alloc::{AllocError, Global};
 use std::collections::VecDeque;
 
-/// No messages yet, of each of `n` processes.
-fn none_yet(alloc: Global, n: u32) -> Result<Vec<usize>, AllocError>
-    ensures { IfOk result (λ counts. counts.items ≡ replicate n 0) }
-{
-    vec![in alloc; 0; n as usize]
-}
-
 /// No messages yet, from each of `n` processes to each.
 fn no_counts(alloc: Global, n: u32) -> Result<Vec<Vec<usize>>, AllocError>
     ensures { IfOk result (λ counts. counts_of counts.items ≡ replicate n (replicate n 0)) }
 {
     let mut counts = Vec::with_capacity(alloc, n as usize)?;
     for _p in 0..n {
-        let row = none_yet(alloc, n)?;
+        let row = vec![in alloc; 0; n as usize]?;
         counts.push(row)?;
     }
     Ok(counts)
@@ -102,17 +94,6 @@ fn count_messages(
     }
 }
 
-/// No packets yet, from each of `n` processes.
-fn no_packets(alloc: Global, n: u32) -> Result<Vec<VecDeque<Packet>>, AllocError>
-    ensures { IfOk result (λ queues. rows_of queues.items ≡ replicate n []) }
-{
-    let mut queues = Vec::with_capacity(alloc, n as usize)?;
-    for _p in 0..n {
-        queues.push(VecDeque::new(alloc))?;
-    }
-    Ok(queues)
-}
-
 /// No packets yet, to each of `n` processes from each.
 pub(crate) fn no_packets_yet(
     alloc: Global,
@@ -122,7 +103,10 @@ pub(crate) fn no_packets_yet(
 {
     let mut packets = Vec::with_capacity(alloc, n as usize)?;
     for _q in 0..n {
-        let queues = no_packets(alloc, n)?;
+        let mut queues = Vec::with_capacity(alloc, n as usize)?;
+        for _p in 0..n {
+            queues.push(VecDeque::new(alloc))?;
+        }
         packets.push(queues)?;
     }
     Ok(packets)
@@ -266,7 +250,7 @@ pub(crate) fn all_replays(
 {
     let n = gathered.n();
     let mut counts = no_counts(alloc, n)?;
-    let mut sums = none_yet(alloc, n)?;
+    let mut sums = vec![in alloc; 0; n as usize]?;
     count_messages(gathered, plan.replays.as_slice(), &mut counts, &mut sums);
     let mut packets = no_packets_yet(alloc, n)?;
     for p in 0..n as usize {

@@ -28,18 +28,6 @@ pub struct Reported {
     pub left: u32,
 }
 
-/// The fewer of the events that are left and the free slots.
-fn fewer(left: u32, room: usize) -> u32
-    ensures left { result ≤ left }
-    ensures room { result ≤ room }
-    ensures most { (result ≡ left) ⊎ (result ≡ room) }
-{
-    if (left as usize) < room {
-        return left;
-    }
-    room as u32
-}
-
 /// Keeps a copy of the state that an event stores, where it is a check.
 fn keep_state(
     alloc: Global,
@@ -136,7 +124,7 @@ impl Post {
     {
         let left = self.journal.len() - self.reported;
         let room = self.line.slots();
-        let k = fewer(left, room);
+        let k = room.min(left as usize) as u32;
         let tape = self.journal.tape();
         let states = states_of(self.alloc, tape, self.reported, k)?;
         put_each(&mut self.line, tape, self.reported, k, states);

@@ -26,7 +26,7 @@ use Rattle.line_posts.proofs.SortLemmas.{left_last, other_default}
 use Rattle.line_posts.proofs.replays.all_replays.Goals as goal
 
 pub count_messages-requires : goal.count_messages-requires
-count_messages-requires c = counted_none c.args.gathered.now.processes c.n-n.result (counts_of c.in_ok-counts.counts.items) c.in_ok-sums.sums.items c.n-n.ensures.value c.in_ok-counts.ensures c.in_ok-sums.ensures
+count_messages-requires c = counted_none c.args.gathered.now.processes c.n-n.result (counts_of c.in_ok-counts.counts.items) c.in_ok-sums.sums.items c.n-n.ensures.value c.in_ok-counts.ensures (c.in_ok-sums.ensures.items_if_clones_equal (λ y same. same))
 
 pub index-requires : goal.index-requires
 index-requires c =

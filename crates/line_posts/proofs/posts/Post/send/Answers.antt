@@ -2,6 +2,7 @@ use Rattle.std.proofs.Common.{◌≡◌, ◌∙◌, refl, ap, arith}
 use Rattle.std.proofs.lemmas.List.{length-map}
 use Rattle.line_rings.specs.Ends.{out_ends, with_item, producer_end, ring_at}
 use Rattle.line_rings.proofs.EndLemmas.{ring_item}
+use Rattle.line_posts.specs.declared.parcels.Parcel.TheVariants.{Message}
 use Rattle.line_posts.proofs.StepLemmas.{send_keeps}
 use Rattle.line_posts.proofs.SameLemmas.{same_via}
 use Rattle.line_posts.proofs.posts.Post.send.Goals as goal
@@ -15,11 +16,10 @@ invariant_of-self-2 c =
     let put = c.push_known.ensures.ends in
     let free = c.make_way.ensures in
     let numbered = c.sends-number.ensures in
-    let parcel = c.message-parcel.ensures in
     let to = c.get.ensures.value in
     let last = c.send.ensures.same in (
       send_keeps _ c.args.to c.args.body _ _ _ _ h (omega (arith, count, long, c.in_default.ensures.process)) c.in_default.ensures.other
-          (cc (sent, free.tape, inc)) (cc (put, to, parcel, numbered, inc, free.tape, free.ends)),
+          (cc (sent, free.tape, inc)) (cc (put, to, numbered, inc, free.tape, free.ends)),
       inc,
       told,
       last.n_is ∙ (free.same.n_is ∙ n),
@@ -30,11 +30,11 @@ invariant_of-self-2 c =
 pub returns-clause-same : goal.returns-clause-same
 returns-clause-same c =
     let free = c.make_way.ensures.ends in
-    let put : out_ends c.push_known.new.outs.items ≡ with_item (out_ends c.self.inside.outs.items) c.get.result c.message-parcel.result = cc (c.push_known.ensures.ends, free) in
+    let put : out_ends c.push_known.new.outs.items ≡ with_item (out_ends c.self.inside.outs.items) c.get.result (Message (record { inc = c.self.inside.incarnation; number = c.sends-number.result; body = c.args.body })) = cc (c.push_known.ensures.ends, free) in
     same_via _ _ _ c.self.view_is (record {
       number = refl;
       opening = refl;
-      outs = λ q. ap (λ t. ring_at t q) put ∙ ring_item (out_ends c.self.inside.outs.items) c.get.result q c.message-parcel.result;
+      outs = λ q. ap (λ t. ring_at t q) put ∙ ring_item (out_ends c.self.inside.outs.items) c.get.result q (Message (record { inc = c.self.inside.incarnation; number = c.sends-number.result; body = c.args.body }));
       ins = λ p. refl;
       line = refl;
     })

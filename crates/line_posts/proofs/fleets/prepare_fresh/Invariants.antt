@@ -3,7 +3,7 @@ use Rattle.std.specs.Prelude.{slice_get, Some}
 use Rattle.line_journals.specs.Journals.{JournalView}
 use Rattle.line_tape.specs.History.{fresh}
 use Rattle.line_posts.specs.Preparations.{IsJournalAt}
-use Rattle.line_posts.proofs.fleets.fresh_journals.Given as goal
+use Rattle.line_posts.proofs.fleets.prepare_fresh.Given as goal
 
 abbrev pub invariant-loop-q : goal.invariant-loop-q
 invariant-loop-q l = record {
