@@ -100,17 +100,6 @@ pub fn mark_of(marks: &[bool], base: u32, number: u32) -> Option<bool>
     marks.get((number - base) as usize).copied()
 }
 
-/// For each process its first send that has a mark: so many before its end.
-fn find_bases(ends: &[u32], before: u32, alloc: Global) -> Result<Vec<u32>, AllocError>
-    ensures { IfOk result (λ bases. length bases.items ≡ length ends.now) }
-{
-    let mut bases = Vec::from_slice(alloc, ends)?;
-    for p in 0..bases.len() {
-        bases[p] = bases[p].saturating_sub(before);
-    }
-    Ok(bases)
-}
-
 /// Where the marks of each process begin: after those of the processes before it.
 fn find_starts(
     history: &History,
@@ -175,16 +164,6 @@ fn is_worth_walking(
             <= events
                 .saturating_add(kept)
                 .saturating_mul(SENDS_FOR_AN_EVENT)
-}
-
-/// How many sends of each process before its end have a mark, where so many messages of `n`
-/// processes were kept.
-fn marks_before(kept: usize, n: u32) -> u32 {
-    if n == 0 {
-        return 0;
-    }
-    let marks = kept.saturating_mul(MARKS_FOR_A_MESSAGE) / n as usize;
-    marks.min(u32::MAX as usize) as u32
 }
 
 /// Whether the sender's tape holds the message, and its send is to process `q`.
@@ -288,7 +267,8 @@ fn mark_receipts(
     }
 }
 
-/// The marks of all processes, where there is memory for them: those are set that the receipts
+/// The marks of all processes, where there is memory for them. Those of each process begin as many
+/// sends before its end as the messages that were kept pay for; and those are set that the receipts
 /// after the places and before the line tell.
 fn mark_all(
     history: &History,
@@ -307,7 +287,12 @@ fn mark_all(
         places.now known.bases.items known.starts.items known.marks.items) }
 {
     let n = history.n();
-    let bases = find_bases(ends, marks_before(kept, n), alloc)?;
+    let before = kept.saturating_mul(MARKS_FOR_A_MESSAGE) / n as usize;
+    let before = before.min(u32::MAX as usize) as u32;
+    let mut bases = Vec::from_slice(alloc, ends)?;
+    for p in 0..bases.len() {
+        bases[p] = bases[p].saturating_sub(before);
+    }
     let starts = find_starts(history, bases.as_slice(), alloc, line)?;
     let all = starts[starts.len() - 1];
     let mut marks = vec![in alloc; false; all]?;

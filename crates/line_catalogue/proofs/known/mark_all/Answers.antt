@@ -38,7 +38,7 @@ pub loop-receiver-preserved : goal.loop-receiver-preserved
 loop-receiver-preserved c =
     let history : List Process = c.args.history.now.processes in
     let line : List Choice = c.args.line.now in
-    let bases : List ℕ = c.in_ok-bases.bases.items in
+    let bases : List ℕ = c.loop-p.bases.items in
     let starts : List ℕ = c.in_ok-starts.starts.items in
     let old : List Bool = c.loop-receiver.marks.items in
     let lent : List Bool = c.as_mut_slice.result.now in

@@ -1,7 +1,10 @@
-use Rattle.std.proofs.Common.{◌<◌, ℕ}
+use Rattle.std.proofs.Common.{◌≡◌, ◌<◌, ℕ, length}
 use Rattle.line_catalogue.specs.Known.{AreKnown, AreMarkRows, AreReceiptsMarkedSince}
 use Rattle.line_catalogue.specs.Left.{place_at}
 use Rattle.line_catalogue.proofs.known.mark_all.Given as goal
+
+abbrev pub invariant-loop-p : goal.invariant-loop-p
+invariant-loop-p l = length l.bases.items ≡ length l.ends
 
 abbrev pub invariant-loop-receiver : goal.invariant-loop-receiver
 invariant-loop-receiver l = record {
