@@ -3,9 +3,8 @@ ghost use Rattle.std.specs.Prelude.{◌≡◌, ◌<◌, ◌≤◌, ◌+◌, ◌+
 ghost use Rattle.std.specs.Prelude.{true, false, All, IfOk, None, OnOk, Some};
 ghost use Rattle.std.specs.List.Sorted.{IsNonDecreasing, IsNonDecreasingBy};
 ghost use Rattle.line_names.specs.declared.messages.MsgName.{MsgName};
-ghost use Rattle.line_tape.specs.Event.{sends, Holds};
+ghost use Rattle.line_tape.specs.Event.{sends};
 ghost use Rattle.line_tape.specs.Fit.{IsSentTo};
-ghost use Rattle.line_tape.specs.History.{tape_at};
 ghost use Rattle.line_tape.specs.Line.{events_before, IsLine};
 ghost use Rattle.line_tape.specs.Transit.{has_received};
 ghost use Rattle.line_catalogue.specs.Known.{AreMarksExact, AreMarksExactSince, AreReceived};
@@ -181,37 +180,6 @@ pub fn add_first(
     add_old(history, line, p, end, both.as_slice(), messages)
 }
 
-/// Whether so many are more than the most, if there is such a limit.
-fn are_past(most: Option<usize>, count: usize) -> bool
-    ensures { most ≡ None → result ≡ false }
-{
-    match most {
-        Some(most) => most < count,
-        None => false,
-    }
-}
-
-/// Adds a process's message of a number.
-fn add_sent(
-    history: &History,
-    p: ProcId,
-    number: u32,
-    messages: &mut Vec<MsgName>,
-) -> Result<(), AllocError>
-    requires process { p < length history.now.processes }
-    requires number { number < sends (tape_at history.now.processes p) }
-    ensures { OnOk result ((message : MsgName) → message.from ≡ p → message.number ≡ number
-        → Holds (tape_at history.now.processes p) message.inc number
-        → messages.new.items ≡ messages.old.items ++ message ∷ []) }
-{
-    messages.push(MsgName {
-        from: p,
-        inc: history.tape(p).sent_under(number).unwrap(),
-        number,
-    })?;
-    Ok(())
-}
-
 /// Adds a process's message of a number, if it is in transit: its mark tells that it is not, and
 /// where the kept line is closed it tells that it is. Else it is asked of.
 fn add_if_not_marked(
@@ -237,7 +205,11 @@ fn add_if_not_marked(
         Some(true) => Ok(()),
         Some(false) => {
             if closed {
-                add_sent(history, p, number, messages)?;
+                messages.push(MsgName {
+                    from: p,
+                    inc: history.tape(p).sent_under(number).unwrap(),
+                    number,
+                })?;
                 Ok(())
             } else {
                 add_if_open(history, line, p, number, messages)
@@ -278,7 +250,7 @@ pub fn add_since(
 {
     let sends = history.tape(p).sends_before(line.at(p));
     for number in end..sends {
-        if are_past(most, messages.len()) {
+        if most.unwrap_or(usize::MAX) < messages.len() {
             return Ok(number);
         }
         let mark = mark_of(known, base, number);
