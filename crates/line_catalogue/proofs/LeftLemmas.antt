@@ -1,11 +1,12 @@
 -- What is left to look at: it stays right by every event and by a restart, and with what is received behind a line it is enough.
-use Rattle.std.proofs.Common.{◌≡◌, ℕ, zero, suc, ◌+◌, ◌<◌, ◌≤◌, Bool, true, false, not, cond, List, [], ◌∷◌, ◌++◌, length, take, drop, get_or, map, filter, Some, refl, sym, ap, ◌∙◌, subst, arith, inl, inr, ◌⊎◌}
+use Rattle.std.proofs.Common.{◌≡◌, ℕ, zero, suc, ◌+◌, ◌<◌, ◌≤◌, Bool, true, false, not, cond, List, [], ◌∷◌, ◌++◌, length, take, drop, get_or, map, filter, replicate, Some, refl, sym, ap, ◌∙◌, subst, arith, inl, inr, ◌⊎◌}
 use Rattle.std.specs.List.{Contains, slice_get, flat_map, list_any, range_with_len}
 use Rattle.std.proofs.lemmas.Bool.{cases_lt, false≢true}
-use Rattle.std.proofs.lemmas.List.{take-append-drop, take-append-le, take-take, take_all, length-append, length-set, length-take, get_or-take}
+use Rattle.std.proofs.lemmas.List.{take-append-drop, take-append-le, take-take, take_all, length-append, length-replicate, length-set, length-take, get_or-replicate, get_or-take}
 use Rattle.std.proofs.lemmas.List.Elements.{filter_map-append, Contains-append_cases, Contains-append_left, Contains-append_right, Contains-push}
 use Rattle.std.proofs.lemmas.Option.{slice_get_within}
 use Rattle.line_names.specs.declared.choices.Choice.{Choice}
+use Rattle.line_names.specs.declared.choices.Choice.TheVariants.{Check as AtCheck, Now}
 use Rattle.line_names.specs.declared.messages.MsgName.{MsgName}
 use Rattle.line_names.specs.Lines.{choice_at}
 use Rattle.line_names.specs.Names.{is_name}
@@ -18,6 +19,7 @@ use Rattle.line_tape.specs.History.{Process, tape_at, with_event}
 use Rattle.line_tape.specs.Line.{events_before, IsConsistent}
 use Rattle.line_tape.specs.Restart.{restarted_history}
 use Rattle.line_tape.specs.Transit.{Letter, letters, is_open_letter, open_letters, in_transit, has_received, names_received, addressee_of, addressees}
+use Rattle.line_tape.proofs.ChoiceLemmas.{choice-past}
 use Rattle.line_tape.proofs.EventLemmas.{holds_more, length_addressees, tape_grows}
 use Rattle.line_tape.proofs.ListLemmas.{slice_get_front}
 use Rattle.line_tape.proofs.CutLemmas.{contains_nothing, cons_cases, received_left, sends_take}
@@ -305,6 +307,13 @@ AreLeft-restarted history line starts places e count places_count are at =
             unread = ap (λ (es : List Event). has_received es m) whole ∙ ap (list_any (is_name m)) names ∙ was.unread;
           };
     }
+
+-- where each process stands all its events are before the line
+pub place-present : (history : List Process) (p : ℕ) → place (tape_at history p) (choice_at (replicate (length history) Now) p) ≡ length (tape_at history p)
+place-present history p = elim (cases_lt p (length history)) [
+  | inl within ↦ ap (place (tape_at history p)) (get_or-replicate (length history) p Now (AtCheck 0) within)
+  | inr past ↦ ap (place (tape_at history p)) (choice-past (replicate (length history) Now) p (omega (arith, past, length-replicate {A = Choice} (length history) Now))) ∙ sym (ap (λ (tape : List Event). length tape) (tape_at-past history p (omega (arith, past))))
+]
 
 -- where each send is to be looked at, nothing has to be left
 pub AreLeft-anew : (history : List Process) (starts places : List ℕ) (left : List MsgName) → length starts ≡ length history → length places ≡ length history → ((p : ℕ) → start_at starts p ≡ 0) → ((p : ℕ) → place_at places p ≡ 0) → left ≡ [] → AreLeft history starts places left

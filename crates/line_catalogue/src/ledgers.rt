@@ -1,6 +1,7 @@
 //! A history, and beside it what is left to look at, so that little tells what is in transit.
 ghost use Rattle.std.specs.Prelude.{◌≡◌, ◌≢◌, ◌<◌, ◌≤◌, ◌+◌, ℕ, length};
-ghost use Rattle.std.specs.Prelude.{IfOk, IfSome, IsOk, OnOk, true};
+ghost use Rattle.std.specs.Prelude.{replicate, IfOk, IfSome, IsOk, OnOk, true};
+ghost use Rattle.line_names.specs.declared.choices.Choice.{Choice};
 ghost use Rattle.line_tape.specs.Event.{HasLongState, NamesBelow};
 ghost use Rattle.line_tape.specs.History.{tape_at, with_event};
 ghost use Rattle.line_tape.specs.Line.{IsConsistent, IsLine};
@@ -17,7 +18,7 @@ use crate::settlings::{Settled, find_settled};
 use crate::transits::find_transit;
 use line_names::{Choice, Line, MsgName, ProcId, ProcSet};
 use line_tape::{Event, History, MOST_EVENTS};
-use starts::{clear_starts, move_places, move_starts, no_starts, set_places};
+use starts::{clear_starts, move_places, move_starts, no_starts};
 use std::alloc::{AllocError, Global};
 use std::marker::Model;
 
@@ -35,7 +36,8 @@ const EVENTS_LATER: usize = 16;
 
 /// The line of where each process stands.
 fn present_line(history: &History) -> Line
-    ensures { IsLine history.now.processes result }
+    ensures line { IsLine history.now.processes result }
+    ensures now { result ≡ replicate (length history.now.processes) Choice.Now }
 {
     let n = history.n();
     let mut line = Line::new();
@@ -43,17 +45,6 @@ fn present_line(history: &History) -> Line
         line.push(Choice::Now);
     }
     line
-}
-
-/// How many sends a history has.
-fn count_sends(history: &History) -> usize {
-    let n = history.n();
-    let mut sends = 0usize;
-    for q in 0..n {
-        let p = ProcId::try_new(q, n).unwrap();
-        sends = sends.saturating_add(history.tape(p).sends() as usize);
-    }
-    sends
 }
 
 /// After how many further events a ledger settles where it keeps a line: after as many as it would
@@ -116,8 +107,7 @@ impl Ledger {
     {
         let starts = no_starts(alloc, history.n())?;
         let places = no_starts(alloc, history.n())?;
-        let credit = count_sends(&history).saturating_add(EVENTS_BETWEEN);
-        Ok(Ledger {
+        let mut ledger = Ledger {
             history,
             starts,
             places,
@@ -125,8 +115,10 @@ impl Ledger {
             closed: true,
             alloc,
             due: EVENTS_BETWEEN + EVENTS_LATER,
-            credit,
-        })
+            credit: 0,
+        };
+        ledger.credit = events_to_wait(&ledger.history, ledger.kept());
+        Ok(ledger)
     }
 
     /// The history.
@@ -302,7 +294,8 @@ impl Ledger {
             Some(left) => {
                 move_starts(&self.history, line, &mut self.starts);
                 self.history.restart(line);
-                set_places(&self.history, &mut self.places);
+                let present = present_line(&self.history);
+                move_places(&self.history, &present, &mut self.places);
                 self.left = left;
                 self.closed = true;
                 self.wait();

@@ -56,18 +56,3 @@ pub fn move_places(history: &History, line: &Line, places: &mut Vec<u32>)
         places[q as usize] = before;
     }
 }
-
-/// Has each place be the number of all events of the process.
-pub fn set_places(history: &History, places: &mut Vec<u32>)
-    requires { length places.old.items ≡ length history.now.processes }
-    ensures count { length places.new.items ≡ length history.now.processes }
-    ensures places { (p : ℕ) → place_at places.new.items p
-        ≡ length (tape_at history.now.processes p) }
-{
-    let n = history.n();
-    for q in 0..n {
-        let p = ProcId::try_new(q, n).unwrap();
-        let all = history.tape(p).len();
-        places[q as usize] = all;
-    }
-}
