@@ -8,7 +8,7 @@ ghost use Rattle.line_tape.specs.Line.{IsConsistent, IsLine};
 ghost use Rattle.line_tape.specs.Restart.{restarted_history, HaveFurther};
 ghost use Rattle.line_tape.specs.Transit.{in_transit};
 ghost use Rattle.line_tape.specs.Views.{room_at};
-ghost use Rattle.line_catalogue.specs.Left.{AreClosed, AreLeft, AreSettledUpTo, AreStrangers};
+ghost use Rattle.line_catalogue.specs.Left.{AreClosed, AreLeft, AreStrangers};
 
 mod appends;
 mod starts;
@@ -143,24 +143,6 @@ impl Ledger {
         }
     }
 
-    /// Goes on from where it has settled.
-    fn keep_settled(&mut self, line: &Line, settled: Settled, credit: usize)
-        requires line { IsLine self.old.processes line.now }
-        requires settled { AreSettledUpTo self.old.processes line.now settled.starts.items
-            settled.left.items }
-        ensures { self.new ≡ self.old }
-    {
-        let Settled { starts, left: kept } = settled;
-        move_places(&self.history, line, &mut self.places);
-        self.starts = starts;
-        self.left = kept;
-        self.closed = false;
-        let paid = self.left.len().saturating_mul(EVENTS_FOR_A_MESSAGE);
-        let wait = paid.saturating_add(EVENTS_BETWEEN);
-        self.due = wait.saturating_add(EVENTS_LATER);
-        self.credit = credit.saturating_add(wait);
-    }
-
     /// Has the ledger settle once as many events came as it would look at now.
     fn wait(&mut self)
         ensures { self.new ≡ self.old }
@@ -184,7 +166,17 @@ impl Ledger {
         let mut credit = self.credit;
         let found = find_settled(&self.history, self.kept(), self.alloc, &line, &mut credit);
         match found {
-            Ok(settled) => self.keep_settled(&line, settled, credit),
+            Ok(settled) => {
+                let Settled { starts, left: kept } = settled;
+                move_places(&self.history, &line, &mut self.places);
+                self.starts = starts;
+                self.left = kept;
+                self.closed = false;
+                let paid = self.left.len().saturating_mul(EVENTS_FOR_A_MESSAGE);
+                let wait = paid.saturating_add(EVENTS_BETWEEN);
+                self.due = wait.saturating_add(EVENTS_LATER);
+                self.credit = credit.saturating_add(wait);
+            }
             Err(AllocError) => self.wait(),
         }
     }
@@ -233,7 +225,6 @@ impl Ledger {
         ensures spent { room_at self.old p ≤ room_at self.new p + 1 }
         ensures others { (q : ℕ) → q ≢ p → room_at self.new q ≡ room_at self.old q }
     {
-        let _count = self.starts.len();
         self.history.append(p, event);
         self.count_event();
     }

@@ -24,7 +24,6 @@ impl Ledger {
         ensures spent { room_at self.old p ≤ room_at self.new p + 1 }
         ensures others { (q : ℕ) → q ≢ p → room_at self.new q ≡ room_at self.old q }
     {
-        let _count = self.starts.len();
         self.history.append_send(p, to, inc, body);
         self.count_event();
     }
@@ -40,7 +39,6 @@ impl Ledger {
         ensures spent { room_at self.old p ≤ room_at self.new p + 1 }
         ensures others { (q : ℕ) → q ≢ p → room_at self.new q ≡ room_at self.old q }
     {
-        let _count = self.starts.len();
         self.history.append_receipt(p, message);
         self.count_event();
     }
@@ -56,7 +54,6 @@ impl Ledger {
         ensures spent { room_at self.old p ≤ room_at self.new p + 1 }
         ensures others { (q : ℕ) → q ≢ p → room_at self.new q ≡ room_at self.old q }
     {
-        let _count = self.starts.len();
         self.history.append_mark(p, from, round);
         self.count_event();
     }
