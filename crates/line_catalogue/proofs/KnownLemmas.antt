@@ -24,7 +24,7 @@ use Rattle.line_tape.proofs.FrontLemmas.{Contains-take_more}
 use Rattle.line_tape.proofs.LineLemmas.{tape_at-past}
 use Rattle.line_tape.proofs.ReceivedLemmas.{sent_within}
 use Rattle.line_tape.proofs.TransitLemmas.{has_received-iff}
-use Rattle.line_catalogue.specs.Known.{AreAllReceiptsMarked, AreAllMarksExact, AreAllMarksExactSince, AreKnown, AreMarkRows, AreReceived, AreMarksExact, AreMarksExactSince, HasMark, IsReceiptMarked, IsReceived, IsUnreceived}
+use Rattle.line_catalogue.specs.Known.{AreAllReceiptsMarked, AreKnown, AreMarkRows, AreReceived, AreMarksExact, AreMarksExactSince, HasMark, IsReceiptMarked, IsReceived, IsUnreceived}
 use Rattle.line_catalogue.specs.Left.{open_first, place_at, start_at, AreClosed, AreEnds, AreLeft, IsUnread}
 use Rattle.line_catalogue.proofs.OpenLemmas.{open-step, sent_whole}
 
@@ -123,23 +123,6 @@ mark-tells history line places bases starts marks q k m known noted sent number 
       ] refl
     ] refl
 
--- the marks tell of each message that is left
-pub all-told : (history : List Process) (line : List Choice) (kept places bases starts : List ℕ) (marks : List Bool) (left : List MsgName) → AreLeft history kept places left → AreKnown history line bases starts marks → AreAllReceiptsMarked history line places bases starts marks
-    → AreAllMarksExact history line bases starts marks left
-all-told history line kept places bases starts marks left are known noted = λ q k m among sent number within.
-    let s : ℕ = place_at places q in
-    let tape : List Event = tape_at history q in
-    let was : IsUnread history places m = are.each m among in
-    let same : was.to ≡ q = same_Some _ _ (sym was.sent.to_is ∙ sent.to_is) in
-    let unread : has_received (take s tape) m ≡ false = subst (λ (j : ℕ). has_received (take (place_at places j) (tape_at history j)) m ≡ false) same was.unread in
-    mark-tells history line places bases starts marks q k m known noted sent number within (λ c. false≢true (sym unread ∙ (has_received-iff (take s tape) m).1 c))
-
--- and where the kept line is closed, of each that is sent behind it
-pub all-told-since : (history : List Process) (line : List Choice) (kept ends places bases starts : List ℕ) (marks : List Bool) → AreClosed history kept places → AreEnds history kept line ends → AreKnown history line bases starts marks → AreAllReceiptsMarked history line places bases starts marks
-    → AreAllMarksExactSince history line ends bases starts marks
-all-told-since history line kept ends places bases starts marks closed ending known noted = λ q k m up low sent number within.
-    mark-tells history line places bases starts marks q k m known noted sent number within (λ c. absurd (omega (arith, closed q m c, ending.since m.from m.number up low)))
-
 -- what one mark tells
 module _ (history : List Process) (line : List Choice) (p base number : ℕ) (marks : List Bool) (mark : Option Bool)
     (before : number < base → mark ≡ None) (since : base ≤ number → mark ≡ slice_get marks (number - base)) where
@@ -160,18 +143,26 @@ module _ (history : List Process) (line : List Choice) (p base number : ℕ) (ma
       let at = found_at false is in
       told q (number - base) m from (omega (arith, up, same)) (omega (arith, low, same)) (omega (arith, same, at.0)) (slice_get_within marks (number - base) false at.1) sent ∙ get_or_from_slice_get marks (number - base) false false at.1
 
--- the marks of one process
-pub row-told : (history : List Process) (line : List Choice) (bases starts : List ℕ) (marks : List Bool) (left : List MsgName) (p base : ℕ) (row : List Bool) → AreAllMarksExact history line bases starts marks left → base ≡ start_at bases p
-    → ((k : ℕ) → k < length row → start_at starts p + k < start_at starts (p + 1)) → ((k : ℕ) → k < length row → get_or row k false ≡ get_or marks (start_at starts p + k) false) → AreMarksExact history line p base row left
-row-told history line bases starts marks left p base row told is inside same = λ q k m among from number within sent.
-    let here : start_at starts m.from + k < start_at starts (m.from + 1) = subst (λ (j : ℕ). start_at starts j + k < start_at starts (j + 1)) (sym from) (inside k within) in
-    told q k m among sent (omega (arith, number, is, ap (start_at bases) from)) here ∙ ap (λ (j : ℕ). get_or marks (start_at starts j + k) false) from ∙ sym (same k within)
+-- the marks of one process: they tell of each message that is left
+module _ (history : List Process) (line : List Choice) (kept places bases starts : List ℕ) (marks : List Bool) (p base : ℕ) (row : List Bool)
+    (known : AreKnown history line bases starts marks) (noted : AreAllReceiptsMarked history line places bases starts marks) (is : base ≡ start_at bases p)
+    (inside : (k : ℕ) → k < length row → start_at starts p + k < start_at starts (p + 1)) (same : (k : ℕ) → k < length row → get_or row k false ≡ get_or marks (start_at starts p + k) false) where
+  row-tells : (q k : ℕ) (m : MsgName) → m.from ≡ p → m.number ≡ base + k → k < length row → IsSentTo history q m → (Contains (take (place_at places q) (tape_at history q)) (Recv m) → ⊥) → has_received (events_before history line q) m ≡ get_or row k false
+  row-tells q k m from number within sent unheard =
+      let here : start_at starts m.from + k < start_at starts (m.from + 1) = subst (λ (j : ℕ). start_at starts j + k < start_at starts (j + 1)) (sym from) (inside k within) in
+      mark-tells history line places bases starts marks q k m known noted sent (omega (arith, number, is, ap (start_at bases) from)) here unheard ∙ ap (λ (j : ℕ). get_or marks (start_at starts j + k) false) from ∙ sym (same k within)
 
-pub row-told-since : (history : List Process) (line : List Choice) (ends bases starts : List ℕ) (marks : List Bool) (p base : ℕ) (row : List Bool) → AreAllMarksExactSince history line ends bases starts marks → base ≡ start_at bases p
-    → ((k : ℕ) → k < length row → start_at starts p + k < start_at starts (p + 1)) → ((k : ℕ) → k < length row → get_or row k false ≡ get_or marks (start_at starts p + k) false) → AreMarksExactSince history line p (start_at ends p) base row
-row-told-since history line ends bases starts marks p base row told is inside same = λ q k m from up low number within sent.
-    let here : start_at starts m.from + k < start_at starts (m.from + 1) = subst (λ (j : ℕ). start_at starts j + k < start_at starts (j + 1)) (sym from) (inside k within) in
-    told q k m (omega (arith, up, ap (start_at ends) from)) (omega (arith, low, ap (λ (j : ℕ). sends (events_before history line j)) from)) sent (omega (arith, number, is, ap (start_at bases) from)) here ∙ ap (λ (j : ℕ). get_or marks (start_at starts j + k) false) from ∙ sym (same k within)
+  pub row-told : (left : List MsgName) → AreLeft history kept places left → AreMarksExact history line p base row left
+  row-told left are = λ q k m among from number within sent.
+      let was : IsUnread history places m = are.each m among in
+      let one : was.to ≡ q = same_Some _ _ (sym was.sent.to_is ∙ sent.to_is) in
+      let unread : has_received (take (place_at places q) (tape_at history q)) m ≡ false = subst (λ (j : ℕ). has_received (take (place_at places j) (tape_at history j)) m ≡ false) one was.unread in
+      row-tells q k m from number within sent (λ c. false≢true (sym unread ∙ (has_received-iff (take (place_at places q) (tape_at history q)) m).1 c))
+
+  -- and where the kept line is closed, of each that is sent behind it
+  pub row-told-since : (ends : List ℕ) → AreClosed history kept places → AreEnds history kept line ends → AreMarksExactSince history line p (start_at ends p) base row
+  row-told-since ends closed ending = λ q k m from up low number within sent.
+      row-tells q k m from number within sent (λ c. absurd (omega (arith, closed q m c, ending.since p m.number up low, ap (start_at kept) from)))
 
 pub row-received : (history : List Process) (line : List Choice) (bases starts : List ℕ) (marks : List Bool) (p base : ℕ) (row : List Bool) → AreKnown history line bases starts marks → p < length history → base ≡ start_at bases p
     → ((k : ℕ) → get_or row k false ≡ true → HasMark starts marks p k) → AreReceived history line p base row

@@ -1,5 +1,5 @@
 -- The messages of one process: where they stand among all, and what holds of them.
-use Rattle.std.proofs.Common.{◌≡◌, ℕ, ◌+◌, ◌-◌, ◌<◌, ◌≤◌, Bool, true, false, cond, leb, ltb, List, [], ◌∷◌, ◌++◌, length, take, drop, get_or, map, filter, refl, sym, ap, ◌∙◌, subst, append-nil, arith, inl, inr}
+use Rattle.std.proofs.Common.{◌≡◌, ℕ, ◌+◌, ◌-◌, ◌<◌, ◌≤◌, Bool, true, false, cond, leb, ltb, List, [], ◌∷◌, ◌++◌, ◌⊎◌, length, take, drop, get_or, map, filter, refl, sym, ap, ◌∙◌, subst, append-nil, arith, inl, inr}
 use Rattle.std.specs.Prelude.{◌==◌}
 use Rattle.std.specs.List.{All, Contains, slice_range}
 use Rattle.std.specs.List.Sorted.{IsNonDecreasing, IsPartitionPoint}
@@ -10,11 +10,13 @@ use Rattle.std.proofs.lemmas.List.Folds.{drop_split}
 use Rattle.std.proofs.lemmas.List.Kept.{AllPairs-filter}
 use Rattle.line_names.specs.declared.choices.Choice.{Choice}
 use Rattle.line_names.specs.declared.messages.MsgName.{MsgName}
+use Rattle.line_tape.specs.Event.{sends}
 use Rattle.line_tape.specs.History.{Process}
+use Rattle.line_tape.specs.Line.{events_before}
 use Rattle.line_tape.proofs.CutLemmas.{contains_nothing, cons_cases}
-use Rattle.line_catalogue.specs.Known.{AreMarksExact}
-use Rattle.line_catalogue.specs.Left.{messages_of, AreSent, ComeInOrder, HasOpen, HasOpenBeside}
+use Rattle.line_catalogue.specs.Left.{messages_of, open_first, ComeInOrder, HasOpen, HasOpenBeside}
 use Rattle.line_catalogue.proofs.LeftLemmas.{contains_cons, contains_first, in_filter, in_map}
+use Rattle.line_catalogue.proofs.OpenLemmas.{gap-to, none_between}
 
 module _ {X : Type 0} (test : X → Bool) where
   -- a filter of what passes nowhere, and of what passes everywhere
@@ -90,34 +92,31 @@ pub in-messages_of : (p : ℕ) (left : List MsgName) (m : MsgName) → m.from �
 in-messages_of p left m from c = in_filter (λ (x : MsgName). x.from == p) left m (eq-eqb m.from p from) c
 
 -- their numbers ascend
-pub sorted-messages_of : (p : ℕ) (left : List MsgName) → ComeInOrder left → IsNonDecreasing (map (λ (m : MsgName). m.number) (messages_of p left))
-sorted-messages_of p left order i j d up within =
+pub rising-messages_of : (p : ℕ) (left : List MsgName) → ComeInOrder left → (i j d : ℕ) → i < j → j < length (messages_of p left) → get_or (map (λ (m : MsgName). m.number) (messages_of p left)) i d < get_or (map (λ (m : MsgName). m.number) (messages_of p left)) j d
+rising-messages_of p left order i j d less within =
     let own : List MsgName = messages_of p left in
     let any : MsgName = record { from = 0; inc = 0; number = 0 } in
-    let j_within : j < length own = omega (arith, within, length-map own (λ (m : MsgName). m.number)) in
-    let at_i : get_or (map (λ (m : MsgName). m.number) own) i d ≡ (get_or own i any).number = get_or-map (λ (m : MsgName). m.number) own i any d (omega (arith, up, j_within)) in
-    let at_j : get_or (map (λ (m : MsgName). m.number) own) j d ≡ (get_or own j any).number = get_or-map (λ (m : MsgName). m.number) own j any d j_within in
-    elim (cases_lt i j) [
-      | inl less ↦
-          let from : (get_or own i any).from ≡ (get_or own j any).from = from-messages_of p left i any (omega (arith, less, j_within)) ∙ sym (from-messages_of p left j any j_within) in
-          let below = AllPairs-filter (λ (x y : MsgName). x.from ≡ y.from → x.number < y.number) (λ (m : MsgName). m.from == p) left order.numbers i j any less j_within from in
-          omega (arith, at_i, at_j, below)
+    let at_i : get_or (map (λ (m : MsgName). m.number) own) i d ≡ (get_or own i any).number = get_or-map (λ (m : MsgName). m.number) own i any d (omega (arith, less, within)) in
+    let at_j : get_or (map (λ (m : MsgName). m.number) own) j d ≡ (get_or own j any).number = get_or-map (λ (m : MsgName). m.number) own j any d within in
+    let from : (get_or own i any).from ≡ (get_or own j any).from = from-messages_of p left i any (omega (arith, less, within)) ∙ sym (from-messages_of p left j any within) in
+    let below = AllPairs-filter (λ (x y : MsgName). x.from ≡ y.from → x.number < y.number) (λ (m : MsgName). m.from == p) left order.numbers i j any less within from in
+    omega (arith, at_i, at_j, below)
+
+-- where a row is empty nothing is in transit from one number to another between which none of theirs stands
+pub gap-messages_of : (history : List Process) (line : List Choice) (p end : ℕ) (row : List ℕ) (left kept : List MsgName) → kept ≡ messages_of p left → row ≡ [] → ComeInOrder left → end ≤ sends (events_before history line p) → HasOpenBeside history line p end row left
+    → (index a b : ℕ) → a ≤ b → b ≤ end → ((j : ℕ) → j < index → (get_or (map (λ (m : MsgName). m.number) kept) j 0 < a) ⊎ (end ≤ get_or (map (λ (m : MsgName). m.number) kept) j 0)) → (index < length (map (λ (m : MsgName). m.number) kept) → b ≤ get_or (map (λ (m : MsgName). m.number) kept) index 0)
+    → open_first history line p a ≡ open_first history line p b
+gap-messages_of history line p end row left kept is empty order few held index a b up low passed next =
+    let numbers : List ℕ = map (λ (m : MsgName). m.number) kept in
+    let own : numbers ≡ map (λ (m : MsgName). m.number) (messages_of p left) = ap (map (λ (m : MsgName). m.number)) is in
+    let sorted : IsNonDecreasing numbers = subst IsNonDecreasing (sym own) (λ i j d l within. elim (cases_lt i j) [
+      | inl less ↦ omega (arith, rising-messages_of p left order i j d less (omega (arith, within, length-map (messages_of p left) (λ (m : MsgName). m.number))))
       | inr more ↦
-          let same : i ≡ j = omega (arith, up, more) in
-          omega (arith, ap (λ (k : ℕ). get_or (map (λ (m : MsgName). m.number) own) k d) same)
-    ]
-
--- where a row is empty their numbers have all that can be in transit
-pub open-messages_of : (history : List Process) (line : List Choice) (p end : ℕ) (row : List ℕ) (left : List MsgName) → row ≡ [] → HasOpenBeside history line p end row left → HasOpen history line p end (map (λ (m : MsgName). m.number) (messages_of p left))
-open-messages_of history line p end row left empty held = λ q m from low sent unseen. elim (held q m from low sent unseen) [
-  | inl among ↦ absurd (contains_nothing m.number (subst (λ (r : List ℕ). Contains r m.number) empty among))
-  | inr among ↦ in_map (λ (x : MsgName). x.number) (messages_of p left) m (in-messages_of p left m from among)
-]
-
--- each of them was sent
-pub sent-messages_of : (history : List Process) (p : ℕ) (left : List MsgName) → AreSent history left → AreSent history (messages_of p left)
-sent-messages_of history p left are = λ m c. are m (among-messages_of p left m c)
-
--- the marks tell of each of them
-pub told-messages_of : (history : List Process) (line : List Choice) (p base : ℕ) (marks : List Bool) (left : List MsgName) → AreMarksExact history line p base marks left → AreMarksExact history line p base marks (messages_of p left)
-told-messages_of history line p base marks left told = λ q k m c. told q k m (among-messages_of p left m c)
+          let same : i ≡ j = omega (arith, l, more) in
+          omega (arith, ap (λ (k : ℕ). get_or (map (λ (m : MsgName). m.number) (messages_of p left)) k d) same)
+    ]) in
+    let has : HasOpen history line p end numbers = subst (HasOpen history line p end) (sym own) (λ q m from under sent unseen. elim (held q m from under sent unseen) [
+      | inl among ↦ absurd (contains_nothing m.number (subst (λ (r : List ℕ). Contains r m.number) empty among))
+      | inr among ↦ in_map (λ (x : MsgName). x.number) (messages_of p left) m (in-messages_of p left m from among)
+    ]) in
+    gap-to history line p end numbers few has a b up low (none_between numbers end index a b sorted passed low next)

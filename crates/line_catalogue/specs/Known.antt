@@ -88,26 +88,3 @@ abbrev pub AreAllReceiptsMarked : List Process → List Choice → List ℕ → 
 AreAllReceiptsMarked history line places bases starts marks =
     (q : ℕ) → q < length history
     → AreReceiptsMarkedSince history line bases starts marks q (place_at places q)
-
--- the mark of each send before the line from its sender's end on tells whether it is received there
-abbrev pub AreAllMarksExactSince : List Process → List Choice → List ℕ → List ℕ → List ℕ → List Bool
-    → Type 0
-AreAllMarksExactSince history line ends bases starts marks =
-    (q k : ℕ) (message : MsgName) → start_at ends message.from ≤ message.number
-    → message.number < sends (events_before history line message.from)
-    → IsSentTo history q message
-    → message.number ≡ start_at bases message.from + k
-    → start_at starts message.from + k < start_at starts (message.from + 1)
-    → has_received (events_before history line q) message
-    ≡ slice_index_or marks (start_at starts message.from + k) false
-
--- the mark of each message that is left tells whether it is received before the line
-abbrev pub AreAllMarksExact : List Process → List Choice → List ℕ → List ℕ → List Bool
-    → List MsgName
-    → Type 0
-AreAllMarksExact history line bases starts marks left =
-    (q k : ℕ) (message : MsgName) → Contains left message → IsSentTo history q message
-    → message.number ≡ start_at bases message.from + k
-    → start_at starts message.from + k < start_at starts (message.from + 1)
-    → has_received (events_before history line q) message
-    ≡ slice_index_or marks (start_at starts message.from + k) false

@@ -1,6 +1,6 @@
 //! What is in transit of one process.
-ghost use Rattle.std.specs.Prelude.{◌≡◌, ◌<◌, ◌≤◌, ◌+◌, ◌++◌, ◌∷◌, [], ℕ, List, not, length, map};
-ghost use Rattle.std.specs.Prelude.{true, false, All, IfOk, None, OnOk, Some};
+ghost use Rattle.std.specs.Prelude.{◌≡◌, ◌<◌, ◌≤◌, ◌+◌, ◌++◌, ◌∷◌, [], ℕ, List, not, length};
+ghost use Rattle.std.specs.Prelude.{true, false, IfOk, None, OnOk, Some};
 ghost use Rattle.std.specs.List.Sorted.{IsNonDecreasing, IsNonDecreasingBy};
 ghost use Rattle.line_names.specs.declared.messages.MsgName.{MsgName};
 ghost use Rattle.line_tape.specs.Event.{sends};
@@ -104,40 +104,6 @@ fn is_open(history: &History, line: &Line, message: &MsgName, base: u32, known: 
     }
 }
 
-/// Adds those of a process's first `end` messages that are in transit, where they were all kept.
-fn add_kept(
-    history: &History,
-    line: &Line,
-    _p: ProcId,
-    end: u32,
-    kept: &[MsgName],
-    base: u32,
-    known: &[bool],
-    messages: &mut Vec<MsgName>,
-) -> Result<(), AllocError>
-    requires line { IsLine history.now.processes line.now }
-    requires end { end ≤ sends (events_before history.now.processes line.now _p) }
-    requires from { All (λ (message : MsgName). message.from ≡ _p) kept.now }
-    requires sorted { IsNonDecreasing (map (λ (message : MsgName). message.number) kept.now) }
-    requires held { HasOpen history.now.processes line.now _p end
-        (map (λ (message : MsgName). message.number) kept.now) }
-    requires sent { AreSent history.now.processes kept.now }
-    requires told { AreMarksExact history.now.processes line.now _p base known.now kept.now }
-    ensures { OnOk result (messages.new.items
-        ≡ messages.old.items ++ open_first history.now.processes line.now _p end) }
-{
-    let mut next = 0;
-    for message in kept {
-        if next <= message.number && message.number < end {
-            if is_open(history, line, message, base, known) {
-                messages.push(*message)?;
-            }
-            next = message.number + 1;
-        }
-    }
-    Ok(())
-}
-
 /// Those of the messages that a process sent. It searches for them by halves.
 fn sent_by<'a>(messages: &'a [MsgName], p: ProcId) -> &'a [MsgName]
     requires { IsNonDecreasingBy (λ (message : MsgName). message.from) messages.now }
@@ -174,7 +140,12 @@ pub fn add_first(
 {
     let kept = sent_by(left, p);
     if row.is_empty() {
-        return add_kept(history, line, p, end, kept, base, known, messages);
+        for message in kept {
+            if message.number < end && is_open(history, line, message, base, known) {
+                messages.push(*message)?;
+            }
+        }
+        return Ok(());
     }
     let both = Numbers::of_both(kept, row, alloc)?;
     add_old(history, line, p, end, both.as_slice(), messages)

@@ -9,9 +9,9 @@ use Rattle.line_names.specs.declared.messages.MsgName.{MsgName}
 use Rattle.line_tape.specs.Event.{sends}
 use Rattle.line_tape.specs.History.{Process}
 use Rattle.line_tape.specs.Line.{events_before}
-use Rattle.line_catalogue.specs.Known.{AreAllMarksExact, AreReceived, AreMarksExact}
+use Rattle.line_catalogue.specs.Known.{AreReceived, AreMarksExact}
 use Rattle.line_catalogue.specs.Left.{numbers_at, open_first, start_at, AreEnds, HasOpenBeside, HaveLeft}
-use Rattle.line_catalogue.proofs.KnownLemmas.{all-told, row-received, row-told}
+use Rattle.line_catalogue.proofs.KnownLemmas.{row-received, row-told}
 use Rattle.line_catalogue.proofs.LeftLemmas.{ends-more, has-open, have-open}
 use Rattle.line_catalogue.proofs.OrderLemmas.{below-first, below-next, below-none, AreOpenBelow}
 use Rattle.line_catalogue.proofs.settlings.find_settled.Goals as goal
@@ -50,11 +50,9 @@ settle_sender-requires-clause-told c =
     let history : List Process = c.args.history.now.processes in
     let line : List Choice = c.args.line.now in
     let s : ℕ = c.loop-sender.sender in
-    let left : List MsgName = c.args.kept.left.now in
     let received = c.find_known-received.result in
     let at : c.unwrap-p.result ≡ s = (rw c.unwrap-p.ensures at c.try_new.ensures).1 in
-    let told : AreAllMarksExact history line received.bases.items received.starts.items received.marks.items left = all-told history line c.args.kept.starts.now c.args.kept.places.now received.bases.items received.starts.items received.marks.items left c.requires.left c.find_known-received.ensures.known c.find_known-received.ensures.noted in
-    subst (λ (k : ℕ). AreMarksExact history line k c.base.result c.row.result.now left) (sym at) (row-told history line received.bases.items received.starts.items received.marks.items left s c.base.result c.row.result.now told c.base.ensures c.row.ensures.within c.row.ensures.same)
+    subst (λ (k : ℕ). AreMarksExact history line k c.base.result c.row.result.now c.args.kept.left.now) (sym at) (row-told history line c.args.kept.starts.now c.args.kept.places.now received.bases.items received.starts.items received.marks.items s c.base.result c.row.result.now c.find_known-received.ensures.known c.find_known-received.ensures.noted c.base.ensures c.row.ensures.within c.row.ensures.same c.args.kept.left.now c.requires.left)
 
 pub settle_sender-requires-clause-known : goal.settle_sender-requires-clause-known
 settle_sender-requires-clause-known c =

@@ -1,7 +1,0 @@
-use Rattle.std.proofs.Common.{◌≡◌, ◌++◌, map}
-use Rattle.std.specs.List.{flat_map, range_with_len}
-use Rattle.line_tape.specs.Transit.{Letter, open_letters}
-use Rattle.line_catalogue.proofs.transits.add_all_open.Given as goal
-
-abbrev pub invariant-loop-sender : goal.invariant-loop-sender
-invariant-loop-sender l = l.messages.items ≡ l.fn.messages.items ++ flat_map (λ p. map (λ (letter : Letter). letter.message) (open_letters l.history.processes l.line p)) (range_with_len 0 l.sender)
