@@ -122,14 +122,6 @@ same_numbered n mode rest few = same_script (world_record 1 n mode) (world_recor
 abbrev lines_of : List ℕ → List ℕ × List (List ℕ)
 lines_of text = cut 10 (without 13 text)
 
-first_records : (text : List ℕ) → records_of_text (codes "world,1," ++ text) ≡ begun (codes "1") (parts 44 (lines_of text).0) ∷ records_of_lines (lines_of text).1
-unfolding cut without
-first_records text = refl
-
-second_records : (text : List ℕ) → records_of_text (codes "world,2," ++ text) ≡ begun (codes "2") (parts 44 (lines_of text).0) ∷ records_of_lines (lines_of text).1
-unfolding cut without
-second_records text = refl
-
 -- a script of records that are read, or of none
 abbrev script_if : Bool → List Record → Result Script TextFault
 script_if plain records = (if plain then Ok records else Err (fault_of_record 0 faults.BadRecord)) >>= script_of

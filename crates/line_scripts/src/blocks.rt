@@ -1,6 +1,6 @@
 //! Commands that wait to be done, in blocks that are let go one by one.
 
-ghost use Rattle.std.specs.Prelude.{◌≡◌, ◌+◌, ◌^◌, ◌≤◌, ◌<◌, ◌∷◌, [], drop, length, take};
+ghost use Rattle.std.specs.Prelude.{◌≡◌, ◌+◌, ◌^◌, ◌≤◌, ◌<◌, ◌∷◌, [], drop, length};
 ghost use Rattle.std.specs.Prelude.{IfNone, IfSome, OnErr, OnOk};
 ghost use Rattle.std.specs.List.{AllByRecursion};
 ghost use Rattle.std.specs.VecDeque.{deque_capacity, deque_len};
@@ -9,7 +9,6 @@ ghost use Rattle.line_fields.specs.Fields.{Gives};
 ghost use Rattle.line_scripts.specs.Blocks.{AreCommandBlocks, AreCommandsLeft, ArePackedFrom};
 ghost use Rattle.line_scripts.specs.Blocks.{HasCommand, IsPacked, commands_in, commands_left};
 ghost use Rattle.line_scripts.specs.Blocks.{commands_of_blocks, with_command};
-ghost use Rattle.line_scripts.specs.Keeping.{ArePacked, commands_of_kept};
 ghost use Rattle.line_scripts.specs.Scripts as spec;
 ghost use Rattle.line_scripts.specs.Shown.{HasShortBodyInStep, command_of_ref};
 

@@ -1,15 +1,13 @@
 //! A command that is kept: 16 bytes, beside those that it carries.
 
-ghost use Rattle.std.specs.Prelude.{◌≡◌, ℕ, List, length, IfOk};
+ghost use Rattle.std.specs.Prelude.{◌≡◌, length};
 ghost use Rattle.line_scripts.specs.Keeping.{HasShortMessage, with_bytes};
 ghost use Rattle.line_scripts.specs.Keeping as spec;
 ghost use Rattle.line_scripts.specs.Shown.{HasShortBodyInStep, command_of_ref};
-ghost use Rattle.line_steps.specs.declared.steps.Step.{Step};
 
-use crate::commands::{Command, CommandRef};
+use crate::commands::CommandRef;
 use line_names::{MOST_PROCESSES, ProcId, ProcSet};
 use line_steps::StepRef;
-use std::alloc::{AllocError, Global};
 use std::mem::size_of;
 
 /// A command without the bytes that a message or a state has. Of these it says how many they are.
@@ -67,8 +65,8 @@ const _: () = prove!(size_of::<Kept>() == 16);
 /// A pick of more than 32 bits, and how many bytes the state has.
 #[derive(Drop)]
 pub(crate) struct Far {
-    pick: u64,
-    long: usize,
+    pub(crate) pick: u64,
+    pub(crate) long: usize,
 }
 
 /// The number of a process in a byte.
@@ -88,34 +86,6 @@ fn process(byte: u8) -> ProcId
         Ok(p) => p,
         Err(_) => unreachable!(),
     }
-}
-
-/// A delivery with a state of so many bytes. A pick of more than 32 bits stands apart.
-#[inline(always)]
-pub(crate) fn delivery(
-    alloc: Global,
-    from: ProcId,
-    to: ProcId,
-    pick: u64,
-    long: usize,
-) -> Result<Kept, AllocError>
-    ensures value { (bytes : List ℕ) → IfOk result
-        (λ kept. with_bytes kept bytes ≡ Command.Do (Step.Deliver from to pick bytes)) }
-    ensures long { IfOk result (λ kept. spec.long_of kept ≡ long) }
-    ensures short { IfOk result HasShortMessage }
-{
-    let from = in_byte(from);
-    let to = in_byte(to);
-    if pick <= u32::MAX as u64 {
-        return Ok(Kept::Deliver {
-            from,
-            to,
-            pick: pick as u32,
-            long,
-        });
-    }
-    let far = Box::new(alloc, Far { pick, long }).map_err(AllocError::from)?;
-    Ok(Kept::DeliverFar { from, to, far })
 }
 
 /// How many bytes a command carries.

@@ -12,7 +12,7 @@ ghost use Rattle.line_scripts.specs.Keeping.{HasShortMessage, behind, long_of, o
 ghost use Rattle.line_scripts.specs.Keeping.{with_bytes};
 ghost use Rattle.line_scripts.specs.Scripts as spec;
 
-use crate::keeping::{Kept, delivery, in_byte};
+use crate::keeping::{Far, Kept, in_byte};
 use line_claims::{failed_of, plain, want};
 use line_fields::{Fault, FieldRow, ReadError, hex_behind, number};
 use line_names::{MOST_BODY, ProcId, ProcSet};
@@ -105,8 +105,18 @@ pub(crate) fn deliver_of(
     let Ok(to) = ProcId::try_new(to, n) else {
         return Ok(refused(Fault::NoSuchProcess, long));
     };
-    let delivery = delivery(alloc, from, to, pick, long)?;
-    Ok(delivery)
+    let from = in_byte(from);
+    let to = in_byte(to);
+    if pick <= u32::MAX as u64 {
+        return Ok(Kept::Deliver {
+            from,
+            to,
+            pick: pick as u32,
+            long,
+        });
+    }
+    let far = Box::new(alloc, Far { pick, long }).map_err(AllocError::from)?;
+    Ok(Kept::DeliverFar { from, to, far })
 }
 
 // The process of a record with a state, whose bytes the list then has after the others; none where

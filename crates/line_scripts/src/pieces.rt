@@ -90,16 +90,6 @@ fn take_records(
     keep_all(alloc, n, &mut records, &mut row, commands)
 }
 
-// Lets go all that was taken.
-#[cold]
-#[inline(never)]
-fn let_go(alloc: Global, world: &mut Option<(u32, Mode)>, commands: &mut Blocks)
-    ensures { spec.AreKept world.new commands.new }
-{
-    *world = None;
-    *commands = Blocks::new(alloc);
-}
-
 /// Reads a script whose text comes in pieces of whole lines, the last of which may lack its line
 /// feed.
 ///
@@ -162,7 +152,8 @@ impl ScriptReader {
         match take_records(self.alloc, piece, &mut self.world, &mut self.commands) {
             Ok(()) => Ok(()),
             Err(error) => {
-                let_go(self.alloc, &mut self.world, &mut self.commands);
+                self.world = None;
+                self.commands = Blocks::new(self.alloc);
                 match error {
                     TextError::Fault(fault) => {
                         self.fault = Some(fault);

@@ -1,11 +1,10 @@
 //! Scripts: a whole text, and the commands that it spells.
 
 ghost use Rattle.std.specs.Prelude.{◌≡◌, ◌+◌, ◌^◌, ◌≤◌, ◌<◌, ◌⊎◌, length, IfErr, IfOk};
-ghost use Rattle.line_names.specs.declared.limits.TheConstants.{MOST_BODY, MOST_PROCESSES};
+ghost use Rattle.line_names.specs.declared.limits.TheConstants.{MOST_PROCESSES};
 ghost use Rattle.line_scripts.specs.Scripts as spec;
 ghost use Rattle.line_claims.specs.Reads.{Reads, no_memory};
 ghost use Rattle.line_scripts.specs.Reads.{IsOfScript, script_view, kept_script_view};
-ghost use Rattle.line_scripts.specs.Shown.{HasShortBodyInStep, command_of_ref};
 ghost use Rattle.line_steps.specs.Shown as steps;
 
 use crate::blocks::Commands;
@@ -56,17 +55,6 @@ pub fn keep_script(alloc: Global, text: &[u8]) -> Result<KeptScript, TextFault>
     }
 }
 
-// A message of its own.
-fn own_body(bytes: &[u8]) -> Body
-    requires { length bytes.now ≤ MOST_BODY }
-    ensures { result ≡ bytes.now }
-{
-    match Body::try_new(bytes) {
-        Ok(body) => body,
-        Err(_) => unreachable!(),
-    }
-}
-
 // A state of its own.
 fn own_state(alloc: Global, bytes: &[u8]) -> Result<State, AllocError>
     ensures { IfOk result (λ state. state ≡ bytes.now) }
@@ -81,11 +69,14 @@ fn own_step(alloc: Global, step: &StepRef<'_>) -> Result<Step, AllocError>
     ensures { IfOk result (λ own. own ≡ steps.step_of_ref step.now) }
 {
     match step {
-        StepRef::Send { from, to, body } => Ok(Step::Send {
-            from: *from,
-            to: *to,
-            body: own_body(body),
-        }),
+        StepRef::Send { from, to, body } => match Body::try_new(body) {
+            Ok(body) => Ok(Step::Send {
+                from: *from,
+                to: *to,
+                body,
+            }),
+            Err(_) => unreachable!(),
+        },
         StepRef::Deliver {
             from,
             to,
@@ -121,20 +112,6 @@ fn own_step(alloc: Global, step: &StepRef<'_>) -> Result<Step, AllocError>
     }
 }
 
-// The command that is lent, with its own message, state or set.
-fn own_command(alloc: Global, command: &CommandRef<'_>) -> Result<Command, AllocError>
-    requires { HasShortBodyInStep command.now }
-    ensures { IfOk result (λ own. own ≡ command_of_ref command.now) }
-{
-    match command {
-        CommandRef::Do(step) => Ok(Command::Do(own_step(alloc, step)?)),
-        CommandRef::Rounds => Ok(Command::Rounds),
-        CommandRef::History => Ok(Command::History),
-        CommandRef::Bundle(failed) => Ok(Command::Bundle(**failed)),
-        CommandRef::Refused(code) => Ok(Command::Refused(*code)),
-    }
-}
-
 // All commands, each with its own message, state or set.
 fn all_of(alloc: Global, mut commands: Commands) -> Result<Vec<Command>, AllocError>
     ensures { IfOk result (λ all. all.items ≡ commands) }
@@ -144,7 +121,14 @@ fn all_of(alloc: Global, mut commands: Commands) -> Result<Vec<Command>, AllocEr
         let Some(command) = commands.first() else {
             return Ok(all);
         };
-        all.push(own_command(alloc, &command)?)?;
+        let own = match command {
+            CommandRef::Do(step) => Command::Do(own_step(alloc, &step)?),
+            CommandRef::Rounds => Command::Rounds,
+            CommandRef::History => Command::History,
+            CommandRef::Bundle(failed) => Command::Bundle(*failed),
+            CommandRef::Refused(code) => Command::Refused(code),
+        };
+        all.push(own)?;
         commands.drop_first();
     }
 }

@@ -15,7 +15,7 @@ returns-then-is_some c = λ front ends is.
     sym c.self.view_is ∙ fault_held _ _ front _ on ends plain (c.self.view_is ∙ is)
 
 pub invariant_of-self-in-Fault : goal.invariant_of-self-in-Fault
-invariant_of-self-in-Fault c = (c.let_go.ensures, fault_is_of_script _ _ _ (rw c.in-Fault.is at c.in-Err.ensures.exact))
+invariant_of-self-in-Fault c = (record { within = tt; none = c.new.ensures }, fault_is_of_script _ _ _ (rw c.in-Fault.is at c.in-Err.ensures.exact))
 
 pub returns-in-Ok : goal.returns-in-Ok
 returns-in-Ok c = λ front ends is.
