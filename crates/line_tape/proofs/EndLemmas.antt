@@ -1,5 +1,5 @@
 -- Links by blocks, as blocks come and links are put.
-use Rattle.std.proofs.Common.{◌≡◌, ◌≢◌, ℕ, zero, suc, ◌+◌, ◌*◌, ◌/◌, ◌%◌, ◌<◌, ◌≤◌, ◌++◌, ◌∷◌, [], List, length, set, get_or, replicate, refl, sym, ap, ◌∙◌, arith, inl, inr}
+use Rattle.std.proofs.Common.{◌≡◌, ◌≢◌, ℕ, zero, suc, ◌+◌, ◌*◌, ◌/◌, ◌%◌, ◌<◌, ◌≤◌, ◌∷◌, [], List, length, set, get_or, replicate, refl, sym, ap, ◌∙◌, arith, inl, inr}
 use Rattle.std.proofs.lemmas.Bool.{cases_eq}
 use Rattle.std.proofs.lemmas.List.{get_or-set_same, get_or-set_other, get_or_past}
 use Rattle.line_tape.specs.Ends.{AreBlocks, EndsView, block_of, link_of_sender, link_in, block_count}
@@ -30,13 +30,6 @@ taken_set (suc b ∷ bs) (suc group) block low none = ap (λ n. suc n) (taken_se
 pub taken_none : (n : ℕ) → block_count (replicate n 0) ≡ 0
 taken_none zero = refl
 taken_none (suc n) = taken_none n
-
--- a 0 more changes no answer
-pub push_same : (xs : List ℕ) (place : ℕ) → get_or (xs ++ 0 ∷ []) place 0 ≡ get_or xs place 0
-push_same [] zero = refl
-push_same [] (suc place) = refl
-push_same (x ∷ xs) zero = refl
-push_same (x ∷ xs) (suc place) = push_same xs place
 
 pub link_same : (links more : List ℕ) (block place : ℕ) → ((place : ℕ) → get_or more place 0 ≡ get_or links place 0) → link_in more block place ≡ link_in links block place
 link_same links more zero place same = refl

@@ -1,9 +1,7 @@
 //! What is sent before a line, what is an orphan of it, and whether it is consistent.
-ghost use Rattle.std.specs.Prelude.{◌≡◌, ◌⊎◌, ◌<◌, ◌++◌, ◌↔◌, [], ◌∷◌, List, IsTrue, Some, length};
-ghost use Rattle.line_tape.specs.declared.events.Event.{Event};
+ghost use Rattle.std.specs.Prelude.{◌≡◌, ◌⊎◌, ◌<◌, ◌↔◌, IsTrue, Some, length};
 ghost use Rattle.line_tape.specs.Line.{events_before, IsLine, IsSentBefore, IsFoundAmong};
 ghost use Rattle.line_tape.specs.Line.{IsConsistent};
-ghost use Rattle.line_tape.specs.Shown.{event_of_ref};
 
 use crate::events::EventRef;
 use crate::histories::History;
@@ -57,31 +55,6 @@ fn first_to_name(best: Option<MsgName>, other: MsgName) -> MsgName
     }
 }
 
-/// The orphan to name once one more event is looked at.
-fn with_event(
-    history: &History,
-    line: &Line,
-    event: &EventRef<'_>,
-    best: Option<MsgName>,
-) -> Option<MsgName>
-    requires { IsLine history.now.processes line.now }
-    ensures { (seen : List Event) → IsFoundAmong history.now.processes line.now seen best
-        → IsFoundAmong history.now.processes line.now (seen ++ event_of_ref event.now ∷ []) result }
-{
-    match event {
-        EventRef::Recv { message } => {
-            if is_sent_before(history, line, message) {
-                best
-            } else {
-                Some(first_to_name(best, *message))
-            }
-        }
-        EventRef::Send { .. } => best,
-        EventRef::Check { .. } => best,
-        EventRef::Mark { .. } => best,
-    }
-}
-
 /// An orphan among these events, if there is one: of several that of the lowest sender, and of that
 /// sender the one with the greatest number.
 ///
@@ -92,7 +65,11 @@ pub fn orphan_among(history: &History, line: &Line, events: &Events<'_>) -> Opti
 {
     let mut best = None;
     for i in 0..events.len() {
-        best = with_event(history, line, &events.at(i), best);
+        if let EventRef::Recv { message } = events.at(i) {
+            if !is_sent_before(history, line, &message) {
+                best = Some(first_to_name(best, message));
+            }
+        }
     }
     best
 }

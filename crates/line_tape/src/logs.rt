@@ -1,6 +1,6 @@
 //! The events of a tape, as it keeps and shows them.
 ghost use Rattle.std.specs.Prelude.{◌≡◌, ◌<◌, ◌≤◌, ◌+◌, ◌-◌, ◌^◌, ◌↔◌, ℕ, Option, [], ◌∷◌, ◌++◌};
-ghost use Rattle.std.specs.Prelude.{All, IsOk, IsTrue, OnOk, Some, drop, length, slice_get, take};
+ghost use Rattle.std.specs.Prelude.{All, IfOk, IsOk, IsTrue, Some, drop, length, min, slice_get, take};
 ghost use Rattle.std.specs.Prelude.{vec_capacity, vec_len};
 ghost use Rattle.std.specs.List.{filter_map};
 ghost use Rattle.line_tape.specs.declared.events.Event.TheVariants.{Check, Mark, Recv, Send};
@@ -118,46 +118,36 @@ impl Log {
         }
     }
 
-    /// Makes room for so many further events.
-    pub(crate) fn reserve(&mut self, k: u32) -> Result<(), AllocError>
+    /// Makes room for so many further events with their bodies and states, and tells for how many
+    /// events there is room then, where their bodies and states have it.
+    pub(crate) fn reserve(&mut self, k: usize) -> Result<usize, AllocError>
+        requires { k < 2 ^ 32 }
         ensures same { self.new.events ≡ self.old.events }
-        ensures ok { OnOk result
-            ((k ≤ self.new.room) × (k ≤ self.new.bodies) × (k ≤ self.new.states)) }
+        ensures ok { IfOk result (λ room. (room ≡ self.new.room)
+            × (k ≤ room) × (k ≤ self.new.bodies) × (k ≤ self.new.states)) }
         ensures succeeds { k ≤ self.old.room → k ≤ self.old.bodies → k ≤ self.old.states
             → IsOk result }
         ensures room { self.old.room ≤ self.new.room }
         ensures bodies { self.old.bodies ≤ self.new.bodies }
         ensures states { self.old.states ≤ self.new.states }
     {
-        let k = k as usize;
         self.events.reserve(k)?;
         self.bodies.reserve(k * MOST_BODY)?;
-        self.states.reserve(k)
+        self.states.reserve(k)?;
+        Ok(self.events.capacity() - self.events.len())
     }
 
-    /// For how many further events there is room, where their bodies and states have it.
-    pub(crate) fn room(&self) -> usize
-        ensures { result ≡ self.now.room }
+    /// For how many further bodies and states there is room, whatever they are.
+    pub(crate) fn room_beside(&self) -> usize
+        ensures { result ≡ min self.now.bodies self.now.states }
     {
-        self.events.capacity() - self.events.len()
+        let states = self.states.capacity() - self.states.len();
+        states.min((self.bodies.capacity() - self.bodies.len()) / MOST_BODY)
     }
 
-    /// For how many further bodies and small states there is room, whatever they are.
-    pub(crate) fn room_for_bodies(&self) -> usize
-        ensures { result ≡ self.now.bodies }
-    {
-        (self.bodies.capacity() - self.bodies.len()) / MOST_BODY
-    }
-
-    /// For how many further large states there is room.
-    pub(crate) fn room_for_states(&self) -> usize
-        ensures { result ≡ self.now.states }
-    {
-        self.states.capacity() - self.states.len()
-    }
-
-    /// Adds a send at the end, in room that was made for it: its body goes after the others.
-    pub(crate) fn append_send(&mut self, to: ProcId, inc: u16, body: &[u8])
+    /// Adds a send at the end, in room that was made for it: its body goes after the others. Tells
+    /// whether a further body has room.
+    pub(crate) fn append_send(&mut self, to: ProcId, inc: u16, body: &[u8]) -> bool
         requires room { 0 < self.old.room }
         requires bodies { 0 < self.old.bodies }
         requires few { length self.old.events < MOST_EVENTS }
@@ -166,6 +156,7 @@ impl Log {
         ensures room { self.old.room ≤ self.new.room + 1 }
         ensures bodies { self.old.bodies ≤ self.new.bodies + 1 }
         ensures states { self.new.states ≡ self.old.states }
+        ensures further { IsTrue result ↔ (0 < self.new.bodies) }
     {
         let kept = KeptEvent::Send {
             to,
@@ -175,6 +166,7 @@ impl Log {
         };
         self.bodies.extend_from_slice(body).unwrap();
         self.events.push_reserved(kept);
+        self.bodies.capacity() - self.bodies.len() >= MOST_BODY
     }
 
     /// Adds the receipt of a message at the end, in room that was made for it.

@@ -49,16 +49,6 @@ fn greatest(numbers: &BTreeMap<u32, u64>) -> Option<u32>
 }
 
 impl Damaged {
-    /// No marks yet.
-    fn new(alloc: Global) -> Damaged
-        ensures { result ≡ [] }
-    {
-        Damaged {
-            numbers: BTreeMap::new(alloc),
-            next: 0,
-        }
-    }
-
     /// Whether a check carries a mark.
     fn has(&self, check: u32) -> bool
         ensures { result ≡ list_any (λ damaged. damaged == check) self.now }
@@ -149,7 +139,10 @@ impl Marks {
         let bars = Bars::new(alloc, n)?;
         let mut damaged = Vec::with_capacity(alloc, n as usize)?;
         for _p in 0..n {
-            damaged.push(Damaged::new(alloc))?;
+            damaged.push(Damaged {
+                numbers: BTreeMap::new(alloc),
+                next: 0,
+            })?;
         }
         Ok(Marks { damaged, bars })
     }

@@ -1,8 +1,7 @@
 //! An index of the receipts of one tape.
 ghost use Rattle.std.specs.Prelude.{◌≡◌, ◌≢◌, ◌<◌, ◌≤◌, ◌+◌, ◌-◌, ◌↔◌, ℕ, suc, [], ◌∷◌, ◌++◌};
-ghost use Rattle.std.specs.Prelude.{Contains, IfOk, IsOk, IsTrue, List, OnOk, length, map, take};
+ghost use Rattle.std.specs.Prelude.{Contains, IfOk, IsOk, IsTrue, length, map, take};
 ghost use Rattle.std.specs.Prelude.{vec_capacity, vec_len};
-ghost use Rattle.line_names.specs.declared.limits.TheConstants.{MOST_PROCESSES};
 ghost use Rattle.line_tape.specs.Noted.{AreChained, AreInTree, AreNoted, IsLastOfSender};
 ghost use Rattle.line_tape.specs.Noted.{name_of_receipt};
 ghost use Rattle.line_tape.specs.Noted.{name_at};
@@ -72,43 +71,6 @@ fn find(receipts: &[Receipt], last: u32, root: u32, wanted: &Receipt) -> u32
     link_at(receipts, root, seat)
 }
 
-/// Takes in a further receipt, in room that was made for it.
-///
-/// One that is not ahead is put in the tree, unless one of its message is there. Whether one of the
-/// chain is of its message is not asked.
-fn add(receipts: &mut Vec<Receipt>, last: &mut LastLinks, root: &mut u32, receipt: Receipt)
-    requires noted { AreNoted receipts.old.items last.old root.old }
-    requires sender { receipt.from < MOST_PROCESSES }
-    requires links { (receipt.near ≡ 0) × (receipt.far ≡ 0) }
-    requires few { vec_len receipts.old < MOST_EVENTS }
-    requires room { vec_len receipts.old < vec_capacity receipts.old }
-    requires last_room { 0 < last.old.room }
-    ensures noted { AreNoted receipts.new.items last.new root.new }
-    ensures names { map name_of_receipt receipts.new.items
-        ≡ map name_of_receipt receipts.old.items ++ name_of_receipt receipt ∷ [] }
-    ensures len { vec_len receipts.new ≡ vec_len receipts.old + 1 }
-    ensures capacity { vec_capacity receipts.old ≤ vec_capacity receipts.new }
-    ensures last_room { last.old.room ≤ last.new.room + 1 }
-{
-    let link = receipts.len() as u32 + 1;
-    let before = receipts.as_slice();
-    let end = last.at(receipt.from);
-    if is_ahead(before, end, &receipt) {
-        let linked = linked_back(before, end, receipt);
-        receipts.push_reserved(linked);
-        last.add_block(receipt.from);
-        last.set(receipt.from, link);
-        return;
-    }
-    let seat = seat_of(before, *root, &receipt);
-    let known = link_at(before, *root, seat);
-    receipts.push_reserved(receipt);
-    if known != 0 {
-        return;
-    }
-    put_receipt(receipts, root, seat, link);
-}
-
 /// Takes the last receipt out of the links, so that it can go.
 fn unlink_last(receipts: &mut Vec<Receipt>, last: &mut LastLinks, root: &mut u32)
     requires noted { AreNoted receipts.old.items last.old root.old }
@@ -154,22 +116,19 @@ impl Receipts {
         self.receipts.len() as u32
     }
 
-    /// For how many further receipts there is room, where their senders have it.
-    pub fn room(&self) -> usize
-        ensures { result ≡ self.now.room }
-    {
-        self.receipts.capacity() - self.receipts.len()
-    }
-
-    /// Makes room for so many further receipts.
-    pub fn reserve(&mut self, k: usize) -> Result<(), AllocError>
+    /// Makes room for so many further receipts and their senders, and tells for how many receipts
+    /// there is room then, where their senders have it.
+    pub fn reserve(&mut self, k: usize) -> Result<usize, AllocError>
         ensures same { self.new.names ≡ self.old.names }
-        ensures ok { OnOk result (k ≤ self.new.room) }
-        ensures succeeds { k ≤ self.old.room → IsOk result }
+        ensures ok { IfOk result (λ room. (room ≡ self.new.room)
+            × (k ≤ room) × (k ≤ self.new.senders)) }
+        ensures succeeds { k ≤ self.old.room → k ≤ self.old.senders → IsOk result }
         ensures room { self.old.room ≤ self.new.room }
-        ensures senders { self.new.senders ≡ self.old.senders }
+        ensures senders { self.old.senders ≤ self.new.senders }
     {
-        self.receipts.reserve(k)
+        self.receipts.reserve(k)?;
+        self.last.reserve(k)?;
+        Ok(self.receipts.capacity() - self.receipts.len())
     }
 
     /// Whether there is room for so many further senders.
@@ -179,18 +138,10 @@ impl Receipts {
         self.last.has_room(k)
     }
 
-    /// Makes room for so many further senders.
-    pub fn reserve_senders(&mut self, k: usize) -> Result<(), AllocError>
-        ensures same { self.new.names ≡ self.old.names }
-        ensures ok { OnOk result (k ≤ self.new.senders) }
-        ensures succeeds { k ≤ self.old.senders → IsOk result }
-        ensures room { self.new.room ≡ self.old.room }
-        ensures senders { self.old.senders ≤ self.new.senders }
-    {
-        self.last.reserve(k)
-    }
-
     /// Takes in a receipt of a message that comes next, in room that was made for it.
+    ///
+    /// One that is not ahead is put in the tree, unless one of its message is there. Whether one of
+    /// the chain is of its message is not asked.
     pub fn note(&mut self, message: &MsgName)
         requires few { length self.old.names < MOST_EVENTS }
         requires room { 0 < self.old.room }
@@ -199,12 +150,24 @@ impl Receipts {
         ensures room { self.old.room ≤ self.new.room + 1 }
         ensures senders { self.old.senders ≤ self.new.senders + 1 }
     {
-        add(
-            &mut self.receipts,
-            &mut self.last,
-            &mut self.root,
-            Receipt::of(message),
-        );
+        let receipt = Receipt::of(message);
+        let link = self.receipts.len() as u32 + 1;
+        let before = self.receipts.as_slice();
+        let end = self.last.at(receipt.from);
+        if is_ahead(before, end, &receipt) {
+            let linked = linked_back(before, end, receipt);
+            self.receipts.push_reserved(linked);
+            self.last.add_block(receipt.from);
+            self.last.set(receipt.from, link);
+            return;
+        }
+        let seat = seat_of(before, self.root, &receipt);
+        let known = link_at(before, self.root, seat);
+        self.receipts.push_reserved(receipt);
+        if known != 0 {
+            return;
+        }
+        put_receipt(&mut self.receipts, &mut self.root, seat, link);
     }
 
     /// Goes back to the first `end` receipts. It looks once at each of the others, and takes no

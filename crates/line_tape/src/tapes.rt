@@ -1,7 +1,6 @@
 //! The tape of one process.
 ghost use Rattle.std.specs.Prelude.{◌≡◌, ◌≢◌, ◌<◌, ◌≤◌, ◌+◌, ◌↔◌, [], ◌∷◌, ◌++◌, length, OnOk};
 ghost use Rattle.std.specs.Prelude.{OnErr, IfOk, IsErrOf, IsOk, IsTrue, Contains, slice_get, Some};
-ghost use Rattle.std.specs.Prelude.{false};
 ghost use Rattle.std.specs.Option.{SomeIff};
 ghost use Rattle.line_tape.specs.declared.events.Event.TheVariants.{Recv};
 ghost use Rattle.line_tape.specs.declared.tapes.TapeError.TheVariants.{StateTooLong, TapeFull};
@@ -21,7 +20,7 @@ use crate::events::{Event, EventRef};
 use crate::limits::{MOST_EVENTS, MOST_STATE};
 use crate::logs::{Events, Log};
 use crate::receipts::Receipts;
-use line_names::{Choice, MOST_BODY, MsgName, ProcId};
+use line_names::{Choice, MsgName, ProcId};
 use std::alloc::{AllocError, Global};
 use std::marker::Model;
 use thiserror::Error;
@@ -75,19 +74,6 @@ impl Model for Tape {
         (vec_capacity t.addressees - vec_len t.addressees)))
         (min (min t.log.bodies t.receipts.senders)
         (min (vec_capacity t.checks - vec_len t.checks) t.log.states)) };
-}
-
-/// Whether the event stores or carries more than a tape takes. A body never does.
-fn is_too_long(event: &Event) -> bool
-    ensures long { IsTrue result ↔ HasLongState event.now }
-    ensures short { result ≡ false → IsShort event.now }
-{
-    match event {
-        Event::Send { body, .. } => body.bytes().len() > MOST_BODY,
-        Event::Recv { .. } => false,
-        Event::Check { state, .. } => state.bytes().len() > MOST_STATE,
-        Event::Mark { .. } => false,
-    }
 }
 
 impl Tape {
@@ -274,10 +260,7 @@ impl Tape {
         }
         let senders = self.receipts.has_room_for_senders(k as usize);
         let rows = self.checks.capacity() - self.checks.len();
-        let beside = self
-            .log
-            .room_for_bodies()
-            .min(rows.min(self.log.room_for_states()));
+        let beside = self.log.room_beside().min(rows);
         if k <= self.spare && senders && k as usize <= beside {
             return Ok(());
         }
@@ -320,13 +303,16 @@ impl Tape {
         ensures limits { IsTape self.new.events }
     {
         let len = self.log.len();
-        if is_too_long(&event) {
-            return Err(TapeError::StateTooLong);
+        if let Event::Check { state, .. } = &event {
+            if state.bytes().len() > MOST_STATE {
+                return Err(TapeError::StateTooLong);
+            }
         }
         if len >= MOST_EVENTS {
             return Err(TapeError::TapeFull);
         }
         self.reserve(1)?;
+        event.is_short_without_long_state();
         self.append(event);
         Ok(())
     }

@@ -67,13 +67,9 @@ fn none_received(
 fn is_sent_to(history: &History, message: &MsgName, q: ProcId) -> bool
     ensures { IsTrue result ↔ IsSentTo history.now.processes q message.now }
 {
-    let p = message.from;
-    if p.get() >= history.n() {
-        return false;
-    }
-    let tape = history.tape(p);
-    match tape.addressee(message.number) {
+    match history.addressee(message) {
         Some(to) => {
+            let tape = history.tape(message.from);
             to.get() == q.get() && tape.sent_before(Choice::Now, message.inc, message.number)
         }
         None => false,

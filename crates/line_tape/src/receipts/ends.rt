@@ -75,10 +75,9 @@ impl LastLinks {
         k <= (capacity - self.links.len()) / 16 || capacity >= 256
     }
 
-    /// Takes memory for so many further senders. There are 256 at most, so it never takes more than
+    /// Makes room for so many further senders. There are 256 at most, so it never takes more than
     /// their room.
-    #[inline(never)]
-    fn grow(&mut self, k: usize) -> Result<(), AllocError>
+    pub fn reserve(&mut self, k: usize) -> Result<(), AllocError>
         ensures same { (sender : ℕ)
             → link_of_sender self.new sender ≡ link_of_sender self.old sender }
         ensures ok { OnOk result (k ≤ self.new.room) }
@@ -87,20 +86,6 @@ impl LastLinks {
     {
         let further = 16 - self.links.len() / 16;
         self.links.reserve(k.min(further) * 16)
-    }
-
-    /// Makes room for so many further senders.
-    pub fn reserve(&mut self, k: usize) -> Result<(), AllocError>
-        ensures same { (sender : ℕ)
-            → link_of_sender self.new sender ≡ link_of_sender self.old sender }
-        ensures ok { OnOk result (k ≤ self.new.room) }
-        ensures succeeds { k ≤ self.old.room → IsOk result }
-        ensures room { self.old.room ≤ self.new.room }
-    {
-        if self.has_room(k) {
-            return Ok(());
-        }
-        self.grow(k)
     }
 
     /// Sees that a sender has a block, in room that was made for it.

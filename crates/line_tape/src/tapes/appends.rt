@@ -25,9 +25,8 @@ impl Tape {
     {
         self.incarnations.push_reserved(inc);
         self.addressees.push_reserved(to);
-        self.log.append_send(to, inc, body);
-        let beside = self.log.room_for_bodies();
-        let spare = if beside > 0 { self.spare - 1 } else { 0 };
+        let beside = self.log.append_send(to, inc, body);
+        let spare = if beside { self.spare - 1 } else { 0 };
         self.spare = spare;
     }
 
@@ -64,8 +63,7 @@ impl Tape {
         self.checks.push_reserved(row);
         self.log.append_check(state, round);
         let rows = self.checks.capacity() - self.checks.len();
-        let states = self.log.room_for_states();
-        let beside = self.log.room_for_bodies().min(rows.min(states));
+        let beside = self.log.room_beside().min(rows);
         let spare = if beside > 0 { self.spare - 1 } else { 0 };
         self.spare = spare;
     }

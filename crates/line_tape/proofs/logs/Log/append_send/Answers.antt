@@ -15,7 +15,7 @@ overflow_cast-kept c =
     let far : Reaches c.self.inside.events.items 0 0 (length c.self.inside.bodies.items) (length c.self.inside.states.items) = laid-reaches c.self.inside.events.items 0 0 (length c.self.inside.bodies.items) (length c.self.inside.states.items) c.self.invariant in
     omega (arith, few, far.few, c.len.ensures, c.self.inside.bodies.ok.0)
 
-whole : (c : goal.After-push_reserved) → IsLog c.push_reserved.new.self.items c.extend_from_slice.new.self.items c.self.inside.states.items (c.args.self.now.events ++ Send c.args.to c.args.inc c.args.body.now ∷ [])
+whole : (c : goal.After-len-2) → IsLog c.push_reserved.new.self.items c.extend_from_slice.new.self.items c.self.inside.states.items (c.args.self.now.events ++ Send c.args.to c.args.inc c.args.body.now ∷ [])
 whole c =
     let events : List KeptEvent = c.self.inside.events.items in
     let bodies : List ℕ = c.self.inside.bodies.items in

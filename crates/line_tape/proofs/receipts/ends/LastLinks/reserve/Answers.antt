@@ -2,7 +2,7 @@
 use Rattle.std.proofs.Common.{◌≡◌, ◌≤◌, length, arith, rules}
 use Rattle.line_tape.specs.Ends.{block_count}
 use Rattle.line_tape.proofs.EndLemmas.{taken_le}
-use Rattle.line_tape.proofs.receipts.ends.LastLinks.grow.Goals as goal
+use Rattle.line_tape.proofs.receipts.ends.LastLinks.reserve.Goals as goal
 
 pub overflow_sub-further : goal.overflow_sub-further
 overflow_sub-further c =
