@@ -1,34 +1,15 @@
 //! The command that `clap` reads the words by.
-ghost use Rattle.std.specs.Prelude.{◌≡◌, ◌∷◌, [], IfOk, IfErr, Some, codes, false, true, map};
-ghost use Rattle.clap.specs.Words.{FailsBy, app_of, kind_of, new_app, new_rule, rule_of};
+ghost use Rattle.std.specs.Prelude.{◌≡◌, IfOk, IfErr, codes, false, true, map};
+ghost use Rattle.clap.specs.Words.{FailsBy, app_of, kind_of, new_app, rule_of};
 ghost use Rattle.clap.specs.Words.{subcommand_of, subcommand_rows_of, takes};
 ghost use Rattle.clap.specs.declared.builder.command.Command.TheViews.{out-Command};
 ghost use Rattle.line_words.specs.Words.{as_program, drill_subcommand, option, recline};
 ghost use Rattle.line_words.specs.Words.{refusals_of};
-ghost use Rattle.line_words.specs.Words.{with_bare};
 
 use crate::helps;
 use clap::error::ErrorKind;
 use clap::{Arg, ArgMatches, Command, Error};
 use std::alloc::{AllocError, Global};
-
-/// An option by its name alone.
-fn named_option<'a>(alloc: Global, name: &'a str) -> Arg<'a>
-    ensures rule { rule_of result
-        ≡ record (new_rule name.entry.now) { long = Some name.entry.now } }
-    ensures local { result.global ≡ false }
-{
-    Arg::new(alloc, name).long(name)
-}
-
-/// An option with the one value that it is to have, and the one that it has where it isn't given.
-fn with_value<'a>(named: Arg<'a>, value: &'a str, default: &'a str) -> Arg<'a>
-    ensures rule { rule_of result
-        ≡ record (rule_of named.entry) { value_names = 1; defaults = default.entry.now ∷ [] } }
-    ensures local { result.global ≡ named.entry.global }
-{
-    named.value_name(value).default_value(default)
-}
 
 /// An option with one value, which it has also where it isn't given.
 fn option_of<'a>(
@@ -41,40 +22,19 @@ fn option_of<'a>(
     ensures rule { rule_of result ≡ option name.entry.now default.entry.now }
     ensures local { result.global ≡ false }
 {
-    with_value(named_option(alloc, name), value, default).help(help)
+    Arg::new(alloc, name)
+        .long(name)
+        .value_name(value)
+        .default_value(default)
+        .help(help)
 }
 
-/// The subcommand for scripts.
-fn run_command<'a>(alloc: Global) -> Command<'a>
-    ensures shape { app_of result ≡ new_app (codes "run") }
+/// A subcommand without options.
+fn plain_command<'a>(alloc: Global, name: &'a str, about: &'a str, help: &'a str) -> Command<'a>
+    ensures shape { app_of result ≡ new_app name.entry.now }
     ensures local { (out-Command result).has_globals ≡ false }
 {
-    Command::new(alloc, "run")
-        .about("Reads a script on standard input and writes the replies on standard output")
-        .after_help(helps::RUN)
-}
-
-/// The subcommand for records that come one by one.
-fn serve_command<'a>(alloc: Global) -> Command<'a>
-    ensures shape { app_of result ≡ new_app (codes "serve") }
-    ensures local { (out-Command result).has_globals ≡ false }
-{
-    Command::new(alloc, "serve")
-        .about("Answers the records on standard input as they come, for as long as it lasts")
-        .after_help(helps::SERVE)
-}
-
-/// The subcommand for claims.
-fn check_command<'a>(alloc: Global) -> Command<'a>
-    ensures shape { app_of result ≡ new_app (codes "check") }
-    ensures local { (out-Command result).has_globals ≡ false }
-{
-    Command::new(alloc, "check")
-        .about(
-            "Reads a history and a claim on it on standard input and writes the verdict on \
-             standard output",
-        )
-        .after_help(helps::CHECK)
+    Command::new(alloc, name).about(about).after_help(help)
 }
 
 /// The subcommand for drills, with its options.
@@ -104,20 +64,18 @@ fn bare_command<'a>(alloc: Global) -> Command<'a>
         .subcommand_required(true)
 }
 
-/// The command of the program with the subcommands for scripts and records.
-fn script_commands<'a>(alloc: Global) -> Result<Command<'a>, AllocError>
-    ensures { IfOk result (λ command. app_of command ≡ with_bare
-        (with_bare (as_program (new_app (codes "recline"))) (codes "run")) (codes "serve")) }
-{
-    let with_run = bare_command(alloc).subcommand(run_command(alloc))?;
-    with_run.subcommand(serve_command(alloc))
-}
-
-/// The command of the program.
+/// The command of the program, with the subcommands for scripts, for records that come one by one,
+/// for claims and for drills.
 fn recline_command<'a>(alloc: Global) -> Result<Command<'a>, AllocError>
     ensures { IfOk result (λ command. app_of command ≡ recline) }
 {
-    let with_check = script_commands(alloc)?.subcommand(check_command(alloc))?;
+    let run = "Reads a script on standard input and writes the replies on standard output";
+    let serve = "Answers the records on standard input as they come, for as long as it lasts";
+    let check = "Reads a history and a claim on it on standard input and writes the verdict on \
+                 standard output";
+    let with_run = bare_command(alloc).subcommand(plain_command(alloc, "run", run, helps::RUN))?;
+    let with_serve = with_run.subcommand(plain_command(alloc, "serve", serve, helps::SERVE))?;
+    let with_check = with_serve.subcommand(plain_command(alloc, "check", check, helps::CHECK))?;
     with_check.subcommand(drill_command(alloc)?)
 }
 

@@ -3,7 +3,7 @@ use Rattle.std.proofs.Common.{ap, Bool, ◌∙◌}
 use Rattle.clap.specs.Simple.{app_of_fields}
 use Rattle.clap.specs.declared.builder.command.Command.TheOpen.{Command-F}
 use Rattle.clap.specs.declared.builder.command.Command.{Command}
-use Rattle.line_words.proofs.commands.run_command.Goals as goal
+use Rattle.line_words.proofs.commands.plain_command.Goals as goal
 
 pub returns-clause-shape : goal.returns-clause-shape
 returns-clause-shape c = ap app_of_fields c.after_help.ensures ∙ (ap app_of_fields c.about.ensures ∙ c.new.ensures.app)
