@@ -1,10 +1,9 @@
 //! Drills: workers in threads that each send to the next one, receive from the one before and take
 //! a check, again and again.
-ghost use Rattle.std.specs.Prelude.{◌≡◌, ◌≤◌, ◌<◌, ◌++◌, IfOk, IfErr, OnOk};
+ghost use Rattle.std.specs.Prelude.{◌≡◌, ◌≤◌, ◌<◌, IfOk, IfErr};
 ghost use Rattle.line_drills.specs.Faults.{HasFilledRing, IsFault};
 ghost use Rattle.line_drills.specs.Scripts as drills;
 ghost use Rattle.line_drill_texts.specs.Drills.{IsDrillText, drill_scripts, orders_of};
-ghost use Rattle.line_drill_texts.specs.Drills.{round_orders};
 
 use line_claims::write_history;
 use line_drills::{DrillError, DrillWhy, Gate, Order, drill};
@@ -37,39 +36,24 @@ impl Gate for Open {
     }
 }
 
-/// Adds what worker `p` does in a round.
-fn push_round(
-    alloc: Global,
-    orders: &mut Vec<Order>,
-    workers: u32,
-    p: u32,
-) -> Result<(), AllocError>
-    requires worker { p < workers }
-    requires count { workers ≤ MOST_WORKERS }
-    ensures { OnOk result (orders.new.items ≡ orders.old.items ++ round_orders workers p) }
-{
-    let after = if p + 1 == workers { 0 } else { p + 1 };
-    let before = if p == 0 { workers - 1 } else { p - 1 };
-    let to = ProcId::try_new(after, workers).unwrap();
-    let from = ProcId::try_new(before, workers).unwrap();
-    let number = [p as u8];
-    let body = Body::try_new(&number).unwrap();
-    let state = State::of(Vec::from_slice(alloc, &number)?);
-    orders.push(Order::Send { to, body })?;
-    orders.push(Order::Receive { from })?;
-    orders.push(Order::Check { state })?;
-    Ok(())
-}
-
 /// What worker `p` does in so many rounds.
 fn orders_of(alloc: Global, workers: u32, rounds: u32, p: u32) -> Result<Vec<Order>, AllocError>
     requires worker { p < workers }
     requires count { workers ≤ MOST_WORKERS }
     ensures { IfOk result (λ orders. orders.items ≡ orders_of workers p rounds) }
 {
+    let after = if p + 1 == workers { 0 } else { p + 1 };
+    let before = if p == 0 { workers - 1 } else { p - 1 };
+    let to = ProcId::try_new(after, workers).unwrap();
+    let from = ProcId::try_new(before, workers).unwrap();
+    let number = [p as u8];
     let mut orders = Vec::new(alloc);
     for _round in 0..rounds {
-        push_round(alloc, &mut orders, workers, p)?;
+        let body = Body::try_new(&number).unwrap();
+        let state = State::of(Vec::from_slice(alloc, &number)?);
+        orders.push(Order::Send { to, body })?;
+        orders.push(Order::Receive { from })?;
+        orders.push(Order::Check { state })?;
     }
     Ok(orders)
 }
