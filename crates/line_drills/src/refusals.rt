@@ -1,6 +1,6 @@
 //! Why a drill did not end well, and where.
 ghost use Rattle.std.specs.Prelude.{◌≡◌};
-ghost use Rattle.line_drills.specs.Faults.{name_of_why, number_of_why, of_no_order, of_order};
+ghost use Rattle.line_drills.specs.Faults.{name_of_why, number_of_why, of_no_order};
 
 use line_posts::{FleetError, MOST_CAPACITY, MOST_WORKERS};
 use line_tape::MOST_STATE;
@@ -106,17 +106,6 @@ pub(crate) fn of_no_order(why: DrillWhy) -> DrillError
     DrillError {
         worker: None,
         order: None,
-        why,
-    }
-}
-
-/// A fault of order `k` of worker `p`.
-pub(crate) fn of_order(p: u32, k: u32, why: DrillWhy) -> DrillError
-    ensures { result ≡ of_order p k why }
-{
-    DrillError {
-        worker: Some(p),
-        order: Some(k),
         why,
     }
 }

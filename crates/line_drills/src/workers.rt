@@ -7,7 +7,7 @@ ghost use Rattle.line_drills.specs.declared.orders.Order.TheVariants.{Send, Rece
 
 use crate::gates::{Gate, passes};
 use crate::orders::Order;
-use crate::refusals::{DrillError, DrillWhy, of_order};
+use crate::refusals::{DrillError, DrillWhy};
 use line_names::{Body, ProcId};
 use line_posts::{Post, ReceiveWhy, Received, SendWhy};
 use line_tape::{MOST_EVENTS, State, TapeError};
@@ -141,7 +141,11 @@ pub(crate) fn follow<G: Gate>(
         let _limit = post.tape().len();
         let number = k as u32;
         if let Err(why) = step(alloc, gate, turns, &mut post, number, &script[k]) {
-            return Err(of_order(p, number, why));
+            return Err(DrillError {
+                worker: Some(p),
+                order: Some(number),
+                why,
+            });
         }
     }
     Ok(post)

@@ -22,9 +22,9 @@ returns-in-Err-clause-failed g c =
     let t = c.loop-k-test.true in
     let l = c.len-k-end.ensures in
     let S = c.args.script.now.items in
-    failed_at S c.loop-k.k c.index.result.now c.args.post c.loop-k.post c.step.new.post c.in-Err.why c.number-p.result c.of_order.result
+    failed_at S c.loop-k.k c.index.result.now c.args.post c.loop-k.post c.step.new.post c.in-Err.why c.number-p.result _
     (there S S c.loop-k.k c.index.result.now refl (omega (arith, t, l)) c.index.ensures)
-    c.loop-k.invariant c.tape.ensures.known c.number-p.ensures.value c.in-Err.ensures.cause c.of_order.ensures
+    c.loop-k.invariant c.tape.ensures.known c.number-p.ensures.value c.in-Err.ensures.cause refl
 
 pub loop-k-preserved : goal.loop-k-preserved
 loop-k-preserved g c =
