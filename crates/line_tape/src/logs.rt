@@ -1,7 +1,7 @@
 //! The events of a tape, as it keeps and shows them.
 ghost use Rattle.std.specs.Prelude.{◌≡◌, ◌<◌, ◌≤◌, ◌+◌, ◌-◌, ◌^◌, ◌↔◌, ℕ, Option, [], ◌∷◌, ◌++◌};
-ghost use Rattle.std.specs.Prelude.{All, IfOk, IsOk, IsTrue, Some, drop, length, min, slice_get, take};
-ghost use Rattle.std.specs.Prelude.{vec_capacity, vec_len};
+ghost use Rattle.std.specs.Prelude.{All, IfOk, IsOk, IsTrue, Some, drop, length, min, slice_get};
+ghost use Rattle.std.specs.Prelude.{take, vec_capacity, vec_len};
 ghost use Rattle.std.specs.List.{filter_map};
 ghost use Rattle.line_tape.specs.declared.events.Event.TheVariants.{Check, Mark, Recv, Send};
 ghost use Rattle.line_tape.specs.Kept.{IsSettled};
