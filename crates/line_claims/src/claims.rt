@@ -59,22 +59,7 @@ pub(crate) fn begin_claim(alloc: Global, n: u32) -> Result<Claim, AllocError>
     })
 }
 
-// Takes the end of a claim.
-fn take_end(number: u64, row: &FieldRow<'_>) -> Result<ClaimStage, TextError>
-    ensures { (version n : ℕ) (claim : claims.Claim)
-        → Goes result (spec.end_left claim number)
-        (λ stage. spec.claim_left stage version n claim (number + 1)) row.now }
-{
-    if !is_named(row, b"end") {
-        return Err(fault_at(number, Fault::BadRecord));
-    }
-    match want(row.len() == 1, Fault::BadRecord) {
-        Ok(()) => Ok(ClaimStage::Nothing),
-        Err(fault) => Err(fault_at(number, fault)),
-    }
-}
-
-// Takes an entry of the certificate of a claim, or what may follow the entries.
+// Takes an entry of the certificate of a claim, or the end, which follows the entries.
 fn take_entry(
     n: u32,
     claim: &mut Claim,
@@ -88,12 +73,18 @@ fn take_entry(
         (number + 1)) row.now }
     ensures same { claim.new.marks ≡ claim.old.marks }
 {
-    if !is_named(row, b"pass") {
-        return take_end(number, row);
+    if is_named(row, b"pass") {
+        return match entry_of(&mut claim.certificate, n, row) {
+            Ok(()) => Ok(ClaimStage::Entries),
+            Err(error) => Err(error_at(number, error)),
+        };
     }
-    match entry_of(&mut claim.certificate, n, row) {
-        Ok(()) => Ok(ClaimStage::Entries),
-        Err(error) => Err(error_at(number, error)),
+    if !is_named(row, b"end") {
+        return Err(fault_at(number, Fault::BadRecord));
+    }
+    match want(row.len() == 1, Fault::BadRecord) {
+        Ok(()) => Ok(ClaimStage::Nothing),
+        Err(fault) => Err(fault_at(number, fault)),
     }
 }
 
