@@ -64,22 +64,6 @@ fn put_check<K: Sink>(
     put_fields(sink, writer, b"check", &[Field::Bytes(state), last])
 }
 
-// Writes `mark,FROM,ROUND`.
-fn put_mark<K: Sink>(
-    sink: &mut K,
-    writer: &mut RecordWriter,
-    from: ProcId,
-    round: u32,
-) -> Result<(), DeviceFault>
-    ensures put { Outputs result (K.taken sink.old) (K.taken sink.new) (K.faults sink.old)
-        (K.faults sink.new) writer.new
-        (writer.old ++ record_text (spec.event_record (Event.Mark from round))) }
-    ensures fits { OnOk result (FitsWords (Event.Mark from round)) }
-{
-    let place = from.get();
-    put_numbers(sink, writer, b"mark", &[place as u64, round as u64])
-}
-
 // Writes the record of an event: `send,TO,INC,HEX`, `recv,FROM,INC,NUMBER`, `check,HEX,ROUND` or
 // `mark,FROM,ROUND`.
 fn put_event<K: Sink>(
@@ -96,7 +80,10 @@ fn put_event<K: Sink>(
         EventRef::Send { to, inc, body } => put_send(sink, writer, *to, *inc, body),
         EventRef::Recv { message } => put_recv(sink, writer, *message),
         EventRef::Check { state, round } => put_check(sink, writer, state, *round),
-        EventRef::Mark { from, round } => put_mark(sink, writer, *from, *round),
+        EventRef::Mark { from, round } => {
+            let place = from.get();
+            put_numbers(sink, writer, b"mark", &[place as u64, *round as u64])
+        }
     }
 }
 
