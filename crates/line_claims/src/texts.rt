@@ -1,10 +1,8 @@
 //! Texts: a history, a claim, or both.
 
-ghost use Rattle.std.specs.Prelude.{◌≡◌, ◌≤◌, ◌<◌, ◌+◌, ◌^◌, ◌⊎◌, drop, length};
-ghost use Rattle.std.specs.Prelude.{IfErr, IfOk, OnOk};
+ghost use Rattle.std.specs.Prelude.{◌≡◌, ◌≤◌, ◌<◌, ◌+◌, ◌^◌, ◌⊎◌, length, IfErr, IfOk};
 ghost use Rattle.line_names.specs.declared.limits.TheConstants.{MOST_PROCESSES};
 ghost use Rattle.line_claims.specs.Claims as claims;
-ghost use Rattle.line_claims.specs.Histories.{head_in};
 ghost use Rattle.line_claims.specs.Reads.{IsOfText, Reads, Yields, no_memory};
 ghost use Rattle.line_claims.specs.Stages.{claim_left, tapes_left, whole_front};
 ghost use Rattle.line_claims.specs.Texts as spec;
@@ -37,21 +35,6 @@ fn open(alloc: Global, text: &[u8]) -> Result<RecordReader<'_>, TextError>
         return Err(fault_at(0, Fault::BadRecord));
     }
     Ok(RecordReader::open(alloc, text))
-}
-
-// Takes the first record of a text, which announces the version and the number of processes.
-fn take_head<'a>(
-    records: &mut RecordReader<'a>,
-    row: &mut FieldRow<'a>,
-) -> Result<(u32, u32), TextError>
-    ensures exact { Yields (λ head. head) result (head_in records.old) }
-    ensures within { IfOk result (λ head. (1 ≤ head.1) × (head.1 ≤ MOST_PROCESSES)) }
-    ensures rest { OnOk result (records.new ≡ drop 1 records.old) }
-{
-    if !records.next_row(row)? {
-        return Err(fault_at(1, Fault::NoWorld));
-    }
-    head_at(row)
 }
 
 // Takes the tapes of a history, which all records that are left are of.
@@ -87,7 +70,10 @@ fn history_in(alloc: Global, text: &[u8]) -> Result<History, TextError>
 {
     let mut records = open(alloc, text)?;
     let mut row = FieldRow::new(alloc);
-    let (_, n) = take_head(&mut records, &mut row)?;
+    if !records.next_row(&mut row)? {
+        return Err(fault_at(1, Fault::NoWorld));
+    }
+    let (_, n) = head_at(&row)?;
     let mut history = begin_history(alloc, n)?;
     take_tapes(alloc, &mut records, &mut row, &mut history)?;
     Ok(history)
