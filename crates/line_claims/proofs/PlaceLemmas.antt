@@ -16,7 +16,7 @@ use Rattle.line_claims.specs.declared.faults.TextFault.{TextFault}
 use Rattle.line_claims.specs.Claims.{Claim, claim_from}
 use Rattle.line_claims.specs.Histories.{front_of, head_in}
 use Rattle.line_claims.specs.Readings.{CheckPlace, EndsBefore, place_left, stage_left, text_left, unless_fault}
-use Rattle.line_claims.specs.Reads.{FailsText, Yields, fault_of_record}
+use Rattle.line_claims.specs.Reads.{FailsText, Reads, Yields, fault_of_error, fault_of_record}
 use Rattle.line_claims.specs.Stages.{claim_left, no_claim, tapes_left, whole_front}
 use Rattle.line_claims.specs.Texts.{Check, certificate_of, certificate_of_text, check_of_text, check_text_of, history_of, history_of_text, records_in}
 use Rattle.line_claims.proofs.ApartLemmas.{input_before, records_before}
@@ -59,6 +59,11 @@ pub claim_closed : {A : Type 0} (result : Result A TextError) (check : Check) (r
 claim_closed (Ok x) check read h = rw h refl
 claim_closed (Err errors.OutOfMemory) check read h = tt
 claim_closed (Err (errors.Fault f)) check read h = rw h refl
+
+-- what a caller is told of an error
+pub told_error : {A B : Type 0} (seen : A → B) (e : TextError) (read : Result B TextFault) → FailsText e read → Reads seen (Err (fault_of_error e)) read
+told_error seen errors.OutOfMemory read h = inl refl
+told_error seen (errors.Fault f) read h = inr h
 
 text_ended : (place : CheckPlace) → text_left place [] ≡ unless_fault place.fault (place_left place.begun place.number [])
 unfolding text_left

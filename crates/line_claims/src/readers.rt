@@ -193,17 +193,6 @@ fn close_check(begun: &BegunCheck, number: u64) -> Result<(), TextError>
     }
 }
 
-// The history and the claim of a check text that ends here.
-fn end_check(begun: BegunCheck, number: u64) -> Result<CheckText, TextFault>
-    requires { IsBegun begun }
-    ensures { Reads check_view result (spec.begun_left begun number []) }
-{
-    match close_check(&begun, number) {
-        Ok(()) => Ok(begun.text),
-        Err(error) => Err(told(error)),
-    }
-}
-
 /// Reads a check text that comes in pieces of whole lines, the last of which may lack its line
 /// feed.
 ///
@@ -306,7 +295,10 @@ impl CheckReader {
             return Err(fault);
         }
         match begun {
-            Some(begun) => end_check(begun, number),
+            Some(begun) => match close_check(&begun, number) {
+                Ok(()) => Ok(begun.text),
+                Err(error) => Err(told(error)),
+            },
             None => Err(TextFault {
                 record_number: 1,
                 code: Fault::NoWorld.code(),
