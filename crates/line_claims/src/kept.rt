@@ -1,38 +1,19 @@
 //! Histories and check texts that are written into memory.
 
-ghost use Rattle.std.specs.Prelude.{◌≡◌, [], Ok, IfOk, OnOk};
+ghost use Rattle.std.specs.Prelude.{◌≡◌, Ok, IfOk, OnOk};
 ghost use Rattle.line_fields.specs.Texts.{records_text};
-ghost use Rattle.line_claims.specs.Ranges.{AreRoundsInRange, FitsMemory, IsHistoryInRange};
+ghost use Rattle.line_claims.specs.Ranges.{AreRoundsInRange, FitsMemory};
 ghost use Rattle.line_claims.specs.Records as spec;
 ghost use Rattle.line_claims.specs.Texts.{history_of_text};
 
 use crate::judgements::put_check_text;
 use crate::versions::earliest_version;
 use crate::writers::put_history;
-use line_devices::{DeviceFault, MemSink, put_all};
+use line_devices::{MemSink, put_all};
 use line_fields::RecordWriter;
 use line_names::{Line, Passed, ProcSet};
 use line_tape::{History, Marks};
 use std::alloc::{AllocError, Global};
-
-// Writes a history into memory.
-fn keep_history(
-    sink: &mut MemSink,
-    writer: &mut RecordWriter,
-    history: &History,
-) -> Result<(), DeviceFault>
-    requires empty { writer.old ≡ [] }
-    requires none { sink.old.bytes ≡ [] }
-    ensures text { OnOk result
-        (sink.new.bytes ≡ records_text (spec.history_records history.now.processes)) }
-    ensures fits { OnOk result (FitsMemory history.now.processes) }
-    ensures range { OnOk result
-        (AreRoundsInRange history.now.processes → IsHistoryInRange history.now.processes) }
-{
-    let version = earliest_version(history.n());
-    put_history(sink, writer, version, history)?;
-    put_all(sink, writer.text())
-}
 
 /// The text of a history, of version 1 where it has at most 64 processes and else of version 2.
 /// `read_history` takes it back where the rounds of the history are from 1 to 65,535.
@@ -50,37 +31,14 @@ pub fn write_history(alloc: Global, history: &History) -> Result<Vec<u8>, AllocE
 {
     let mut writer = RecordWriter::with_room(alloc)?;
     let mut sink = MemSink::new(alloc, usize::MAX, None);
-    match keep_history(&mut sink, &mut writer, history) {
+    let version = earliest_version(history.n());
+    let Ok(()) = put_history(&mut sink, &mut writer, version, history) else {
+        return Err(AllocError);
+    };
+    match put_all(&mut sink, writer.text()) {
         Ok(()) => Ok(sink.into_bytes()),
         Err(_) => Err(AllocError),
     }
-}
-
-// Writes a check text into memory.
-fn keep_check_text(
-    sink: &mut MemSink,
-    writer: &mut RecordWriter,
-    history: &History,
-    marks: &Marks,
-    failed: &ProcSet,
-    line: &Line,
-    certificate: &[Passed],
-) -> Result<(), DeviceFault>
-    requires empty { writer.old ≡ [] }
-    requires none { sink.old.bytes ≡ [] }
-    ensures { OnOk result
-        (sink.new.bytes
-        ≡ records_text
-        (spec.check_records history.now.processes
-        (record {
-          marks = spec.in_order history.now.processes marks.now;
-          failed = failed.now;
-          line = line.now;
-          certificate = certificate.now;
-        }))) }
-{
-    put_check_text(sink, writer, history, marks, failed, line, certificate)?;
-    put_all(sink, writer.text())
 }
 
 /// The check text of a history, and of the claim on it that these of its checks are damaged, its
@@ -109,7 +67,7 @@ pub fn write_check_text(
 {
     let mut writer = RecordWriter::with_room(alloc)?;
     let mut sink = MemSink::new(alloc, usize::MAX, None);
-    match keep_check_text(
+    let Ok(()) = put_check_text(
         &mut sink,
         &mut writer,
         history,
@@ -117,7 +75,10 @@ pub fn write_check_text(
         failed,
         line,
         certificate,
-    ) {
+    ) else {
+        return Err(AllocError);
+    };
+    match put_all(&mut sink, writer.text()) {
         Ok(()) => Ok(sink.into_bytes()),
         Err(_) => Err(AllocError),
     }
