@@ -37,10 +37,6 @@ front_fits {X} P xs i x lt is all one =
     let more : take (i + 1) xs ≡ take i xs ++ x ∷ [] = take_more xs i x lt ∙ ap (λ (y : X). take i xs ++ y ∷ []) (sym is) in
     rw more (all_more P (take i xs) x all one)
 
-pub bytes_fit : (bytes : List ℕ) → ((i : ℕ) → get_or bytes i 0 < 256) → AllByRecursion (λ byte. byte < 2 ^ 8) bytes
-bytes_fit [] fit = tt
-bytes_fit (byte ∷ rest) fit = let here : byte < 256 = fit 0 in (omega arith, bytes_fit rest (λ i. fit (suc i)))
-
 -- ---- in range
 
 event_in_range : (n : ℕ) (event : Event) → IsShort event → NamesBelow n event → FitsWords event → IsRoundInRange event → IsEventInRange n event
