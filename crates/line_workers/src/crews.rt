@@ -65,21 +65,6 @@ fn start<'s, E, W: Work>(
     Ok(handle)
 }
 
-/// Starts the collector.
-fn start_collector<'s, E, W: Work>(
-    scope: &'s Scope<'s, E>,
-    work: &'s W,
-    collector: Collector,
-) -> Result<PromisedHandle<Collector, SameCollector>, NoThread>
-    ensures { IfOk result (λ handle. handle.promise.0.value ≡ collector) }
-{
-    let promise = SameCollector(Snapshot::of(&collector));
-    let Ok(handle) = scope.spawn_with(promise, move || work.collect(collector)) else {
-        return Err(NoThread);
-    };
-    Ok(handle)
-}
-
 /// Starts the last worker, then the others, and then joins it. Its place in the list is kept for
 /// it.
 fn level<'s, E, W: Work, R: Threads>(
@@ -114,7 +99,10 @@ fn all_at_once<'s, E, W: Work, R: Threads>(
     ensures workers { IfOk result (λ r. AreSamePosts posts.items r.1.items) }
     ensures collector { IfOk result (λ r. HasCollectedMore collector r.0) }
 {
-    let handle = start_collector(scope, work, collector)?;
+    let promise = SameCollector(Snapshot::of(&collector));
+    let Ok(handle) = scope.spawn_with(promise, move || work.collect(collector)) else {
+        return Err(NoThread);
+    };
     let back = level(rt, scope, work, posts);
     let collector = handle.join(rt);
     Ok((collector, back?))

@@ -10,55 +10,16 @@ use line_tape::State;
 use std::alloc::Global;
 use std::thread::yield_now;
 
-/// What came of one try.
-#[derive(Clone, Copy, PartialEq, Eq)]
-enum Try {
-    Done,
-    /// There was no slot, or nothing there.
-    Again,
-    Refused,
-}
-
-/// Sends, if the ring has a free slot.
-fn try_send(post: &mut Post, to: ProcId, body: Body) -> Try
-    ensures { IsSamePost post.old post.new }
-{
-    match post.send(to, body) {
-        Ok(_) => Try::Done,
-        Err(refused) => {
-            if refused.why == SendWhy::RingFull {
-                Try::Again
-            } else {
-                Try::Refused
-            }
-        }
-    }
-}
-
-/// Receives, if there is a message.
-fn try_receive(alloc: Global, post: &mut Post, from: ProcId) -> Try
-    ensures { IsSamePost post.old post.new }
-{
-    match post.receive(from, State::of(Vec::new(alloc))) {
-        Ok(_) => Try::Done,
-        Err(why) => {
-            if why == ReceiveWhy::NothingThere {
-                Try::Again
-            } else {
-                Try::Refused
-            }
-        }
-    }
-}
-
 /// Sends as soon as the ring has a free slot; false where it is refused for another reason.
 fn send_soon(post: &mut Post, to: ProcId, body: &Body) -> bool
     ensures { IsSamePost post.old post.new }
 {
     for _turn in 0..u64::MAX {
-        let tried = try_send(post, to, body.copy());
-        if tried != Try::Again {
-            return tried == Try::Done;
+        let Err(refused) = post.send(to, body.copy()) else {
+            return true;
+        };
+        if refused.why != SendWhy::RingFull {
+            return false;
         }
         yield_now();
     }
@@ -70,9 +31,11 @@ fn receive_soon(alloc: Global, post: &mut Post, from: ProcId) -> bool
     ensures { IsSamePost post.old post.new }
 {
     for _turn in 0..u64::MAX {
-        let tried = try_receive(alloc, post, from);
-        if tried != Try::Again {
-            return tried == Try::Done;
+        let Err(why) = post.receive(from, State::of(Vec::new(alloc))) else {
+            return true;
+        };
+        if why != ReceiveWhy::NothingThere {
+            return false;
         }
         yield_now();
     }
@@ -93,28 +56,6 @@ impl Stream {
     }
 }
 
-/// Sends a message so many times.
-fn send_all(post: &mut Post, to: ProcId, body: &Body, count: u32)
-    ensures { IsSamePost post.old post.new }
-{
-    for _message in 0..count {
-        if !send_soon(post, to, body) {
-            return;
-        }
-    }
-}
-
-/// Receives so many messages.
-fn receive_all(alloc: Global, post: &mut Post, from: ProcId, count: u32)
-    ensures { IsSamePost post.old post.new }
-{
-    for _message in 0..count {
-        if !receive_soon(alloc, post, from) {
-            return;
-        }
-    }
-}
-
 impl Work for Stream {
     fn work(&self, post: Post) -> Post
         ensures { IsSamePost post result }
@@ -126,11 +67,17 @@ impl Work for Stream {
         let Ok(other) = ProcId::try_new(u32::from(post.number() == 0), 2) else {
             return post;
         };
-        if post.number() == 0 {
-            send_all(&mut post, other, &body, self.count);
-            return post;
+        let sends = post.number() == 0;
+        for _message in 0..self.count {
+            let is_done = if sends {
+                send_soon(&mut post, other, &body)
+            } else {
+                receive_soon(self.alloc, &mut post, other)
+            };
+            if !is_done {
+                return post;
+            }
         }
-        receive_all(self.alloc, &mut post, other, self.count);
         post
     }
 
@@ -156,42 +103,19 @@ impl Exchange {
     }
 }
 
-/// Sends to a worker, and to itself nothing; false where it was refused.
-fn send_other(post: &mut Post, q: u32, n: u32, body: &Body) -> bool
-    requires { n ≤ MOST_WORKERS }
-    ensures { IsSamePost post.old post.new }
-{
-    if q == post.number() {
-        return true;
-    }
-    let Ok(to) = ProcId::try_new(q, n) else {
-        return false;
-    };
-    send_soon(post, to, body)
-}
-
-/// Receives of a worker, and of itself nothing; false where it was refused.
-fn receive_other(alloc: Global, post: &mut Post, p: u32, n: u32) -> bool
-    requires { n ≤ MOST_WORKERS }
-    ensures { IsSamePost post.old post.new }
-{
-    if p == post.number() {
-        return true;
-    }
-    let Ok(from) = ProcId::try_new(p, n) else {
-        return false;
-    };
-    receive_soon(alloc, post, from)
-}
-
 /// Sends a message to each other one of `n`; false where one was refused.
 fn send_each(post: &mut Post, n: u32, body: &Body) -> bool
     requires { n ≤ MOST_WORKERS }
     ensures { IsSamePost post.old post.new }
 {
     for q in 0..n {
-        if !send_other(post, q, n, body) {
-            return false;
+        if q != post.number() {
+            let Ok(to) = ProcId::try_new(q, n) else {
+                return false;
+            };
+            if !send_soon(post, to, body) {
+                return false;
+            }
         }
     }
     true
@@ -203,8 +127,13 @@ fn receive_each(alloc: Global, post: &mut Post, n: u32) -> bool
     ensures { IsSamePost post.old post.new }
 {
     for p in 0..n {
-        if !receive_other(alloc, post, p, n) {
-            return false;
+        if p != post.number() {
+            let Ok(from) = ProcId::try_new(p, n) else {
+                return false;
+            };
+            if !receive_soon(alloc, post, from) {
+                return false;
+            }
         }
     }
     true

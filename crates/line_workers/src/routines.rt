@@ -37,16 +37,6 @@ fn neighbours(post: &Post) -> Option<(ProcId, ProcId)> {
     Some((next, last))
 }
 
-/// One turn of a worker.
-fn turn(alloc: Global, post: &mut Post, next: ProcId, last: ProcId, body: Body)
-    ensures { IsSamePost post.old post.new }
-{
-    let _ = post.send(next, body);
-    let _ = post.receive(last, State::of(Vec::new(alloc)));
-    let _ = post.check(State::of(Vec::new(alloc)));
-    let _ = post.report();
-}
-
 impl Work for Routine {
     fn work(&self, post: Post) -> Post
         ensures { IsSamePost post result }
@@ -59,7 +49,10 @@ impl Work for Routine {
             let Ok(body) = Body::try_new(b"7") else {
                 return post;
             };
-            turn(self.alloc, &mut post, next, last, body);
+            let _ = post.send(next, body);
+            let _ = post.receive(last, State::of(Vec::new(self.alloc)));
+            let _ = post.check(State::of(Vec::new(self.alloc)));
+            let _ = post.report();
             yield_now();
         }
         post

@@ -1,8 +1,0 @@
-use Rattle.line_posts.proofs.SameLemmas.{same_then}
-use Rattle.line_workers.proofs.loads.receive_all.Goals as goal
-
-pub loop-message-preserved : goal.loop-message-preserved
-loop-message-preserved c = same_then _ _ _ c.loop-message.invariant c.receive_soon.ensures
-
-pub returns-then-not-receive_soon : goal.returns-then-not-receive_soon
-returns-then-not-receive_soon c = same_then _ _ _ c.loop-message.invariant c.receive_soon.ensures

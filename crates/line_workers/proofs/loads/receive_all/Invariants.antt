@@ -1,5 +1,0 @@
-use Rattle.line_posts.specs.Generations.{IsSamePost}
-use Rattle.line_workers.proofs.loads.receive_all.Given as goal
-
-abbrev pub invariant-loop-message : goal.invariant-loop-message
-invariant-loop-message l = IsSamePost l.fn.post l.post

@@ -1,5 +1,0 @@
-use Rattle.line_posts.proofs.SameLemmas.{same_then}
-use Rattle.line_workers.proofs.routines.turn.Goals as goal
-
-pub returns : goal.returns
-returns c = same_then _ _ _ c.send.ensures.same (same_then _ _ _ c.receive.ensures.same (same_then _ _ _ c.check.ensures.same c.report.ensures.same))
