@@ -52,27 +52,19 @@ fn send(digest: &mut Digest, dice: &mut Dice, post: &mut Post, to: ProcId) -> bo
     }
 }
 
-/// Adds what a worker received.
-fn add_received(digest: &mut Digest, received: &Received) {
-    match received {
-        Received::Message { name, body } => {
-            add_name(digest, name);
-            digest.bytes(body.bytes());
-        }
-        Received::Marked { round, forced } => {
-            digest.number(u64::from(*round));
-            digest.number(u64::from(*forced));
-        }
-    }
-}
-
 /// Receives what comes next from another worker; answers whether something came.
 fn receive(alloc: Global, digest: &mut Digest, post: &mut Post, from: ProcId) -> bool
     ensures { IsSamePost post.old post.new }
 {
     match post.receive(from, State::of(Vec::new(alloc))) {
-        Ok(received) => {
-            add_received(digest, &received);
+        Ok(Received::Message { name, body }) => {
+            add_name(digest, &name);
+            digest.bytes(body.bytes());
+            true
+        }
+        Ok(Received::Marked { round, forced }) => {
+            digest.number(u64::from(round));
+            digest.number(u64::from(forced));
             true
         }
         Err(why) => {
@@ -118,24 +110,6 @@ fn report(digest: &mut Digest, post: &mut Post) -> bool
     }
 }
 
-/// A worker makes a call.
-fn make_call(
-    alloc: Global,
-    digest: &mut Digest,
-    dice: &mut Dice,
-    post: &mut Post,
-    call: Call,
-) -> bool
-    ensures { IsSamePost post.old post.new }
-{
-    match call {
-        Call::Send { to } => send(digest, dice, post, to),
-        Call::Receive { from } => receive(alloc, digest, post, from),
-        Call::Check => check(alloc, digest, dice, post),
-        Call::Report => report(digest, post),
-    }
-}
-
 /// One of the workers makes a call.
 fn call_one(
     alloc: Global,
@@ -148,7 +122,13 @@ fn call_one(
     requires { p < length posts.old.items }
     ensures { AreSamePosts posts.old.items posts.new.items }
 {
-    make_call(alloc, digest, dice, &mut posts[p], call)
+    let post = &mut posts[p];
+    match call {
+        Call::Send { to } => send(digest, dice, post, to),
+        Call::Receive { from } => receive(alloc, digest, post, from),
+        Call::Check => check(alloc, digest, dice, post),
+        Call::Report => report(digest, post),
+    }
 }
 
 impl Crew {

@@ -6,9 +6,7 @@ use crate::digests::Digest;
 use crate::worlds::{add_plan, process};
 use anyhow::Result;
 use line_names::{ProcId, ProcSet};
-use line_plan::Plan;
 use line_posts::Gathered;
-use line_tape::History;
 use std::alloc::{AllocError, Global};
 
 /// How many workers there are.
@@ -62,17 +60,6 @@ impl Mail {
         }
         Some(senders.swap_remove(dice.below(count as u32) as usize))
     }
-}
-
-/// The messages that are received again after a restart.
-fn replays_of(alloc: Global, history: &History, plan: &Plan) -> Result<Mail, AllocError> {
-    let mut mail = Mail::new(alloc, history.n())?;
-    for replay in &plan.replays {
-        if let Some(to) = history.addressee(replay) {
-            mail.put(replay.from, to)?;
-        }
-    }
-    Ok(mail)
 }
 
 /// A crew at work, and its mail.
@@ -157,21 +144,22 @@ fn damage(digest: &mut Digest, dice: &mut Dice, gathered: &mut Gathered) -> Resu
     Ok(())
 }
 
-/// Plans, and has all go on from there.
-fn go_on(alloc: Global, digest: &mut Digest, gathered: Gathered) -> Result<Shift> {
-    let plan = gathered.plan()?;
-    add_plan(digest, &plan);
-    let mail = replays_of(alloc, gathered.history(), &plan)?;
-    let crew = Crew::next(digest, gathered)?;
-    Ok(Shift { alloc, crew, mail })
-}
-
-/// Two workers fail, and a check is found to be damaged; all go on from the latest line.
+/// Two workers fail, and a check is found to be damaged; all go on from the latest line, and what
+/// was in transit there is received again.
 fn fail(digest: &mut Digest, dice: &mut Dice, shift: Shift) -> Result<Shift> {
     let alloc = shift.alloc;
     let mut gathered = shift.crew.gather(failed(dice)?)?;
     damage(digest, dice, &mut gathered)?;
-    go_on(alloc, digest, gathered)
+    let plan = gathered.plan()?;
+    add_plan(digest, &plan);
+    let mut mail = Mail::new(alloc, gathered.history().n())?;
+    for replay in &plan.replays {
+        if let Some(to) = gathered.history().addressee(replay) {
+            mail.put(replay.from, to)?;
+        }
+    }
+    let crew = Crew::next(digest, gathered)?;
+    Ok(Shift { alloc, crew, mail })
 }
 
 /// The generations of a fleet: workers send messages of eight bytes and receive them, take checks,

@@ -21,10 +21,8 @@ use crate::worlds::{Driver, add_plan};
 use anyhow::Result;
 use line_claims::write_check_text;
 use line_devices::{MemSink, MemSource};
-use line_names::ProcSet;
-use line_plan::Plan;
 use line_text::{check_text, run_text};
-use line_world::{Mode, World};
+use line_world::Mode;
 use std::alloc::Global;
 use std::env;
 
@@ -59,29 +57,7 @@ fn check(alloc: Global, digest: &mut Digest, text: Vec<u8>) {
     digest.bytes(sink.bytes());
 }
 
-/// The check text of a plan for what a machine did.
-fn claim_text(alloc: Global, world: &World, failed: &ProcSet, plan: &Plan) -> Result<Vec<u8>> {
-    Ok(write_check_text(
-        alloc,
-        world.history(),
-        world.marks(),
-        failed,
-        &plan.line,
-        plan.certificate.as_slice(),
-    )?)
-}
-
-/// A plan is made of what a machine did, and the claim is written and judged.
-fn claim_of(alloc: Global, digest: &mut Digest, world: &World, failed: &ProcSet) -> Result<()> {
-    let plan = world.plan_for(alloc, failed)?;
-    add_plan(digest, &plan);
-    let text = claim_text(alloc, world, failed, &plan)?;
-    digest.bytes(&text);
-    check(alloc, digest, text);
-    Ok(())
-}
-
-/// A machine works, some checks are damaged, and the claim of a plan is judged.
+/// A machine works, and some checks are damaged; a plan is made, and its claim written and judged.
 fn claim(
     alloc: Global,
     digest: &mut Digest,
@@ -96,21 +72,19 @@ fn claim(
         driver.damage(digest, dice)?;
     }
     let failed = driver.failed(dice)?;
-    claim_of(alloc, digest, driver.world(), &failed)
-}
-
-/// A thousand steps, and a plan of what was done by then.
-fn plan_turn(
-    alloc: Global,
-    digest: &mut Digest,
-    dice: &mut Dice,
-    driver: &mut Driver,
-) -> Result<ProcSet> {
-    driver.work(digest, dice, 1_000)?;
-    let failed = driver.failed(dice)?;
     let plan = driver.world().plan_for(alloc, &failed)?;
     add_plan(digest, &plan);
-    Ok(failed)
+    let text = write_check_text(
+        alloc,
+        driver.world().history(),
+        driver.world().marks(),
+        &failed,
+        &plan.line,
+        plan.certificate.as_slice(),
+    )?;
+    digest.bytes(&text);
+    check(alloc, digest, text);
+    Ok(())
 }
 
 /// A machine works, and a plan is made of what it did after each thousand steps; after each ten
@@ -124,7 +98,10 @@ fn plans(
 ) -> Result<()> {
     let mut driver = Driver::new(alloc, 32, mode)?;
     for turn in 0..steps / 1_000 {
-        let failed = plan_turn(alloc, digest, dice, &mut driver)?;
+        driver.work(digest, dice, 1_000)?;
+        let failed = driver.failed(dice)?;
+        let plan = driver.world().plan_for(alloc, &failed)?;
+        add_plan(digest, &plan);
         if turn % 10 == 9 {
             driver.recover(digest, failed);
         }
@@ -139,11 +116,6 @@ fn mode_of(input: u64) -> Mode {
     } else {
         Mode::Unordered
     }
-}
-
-/// How many processes the machine of a claim has: fewer where links keep their order.
-fn processes_of(input: u64) -> u32 {
-    if input % 2 == 0 { 12 } else { 64 }
 }
 
 /// Does a job on one input; answers whether there is such a job.
@@ -163,14 +135,9 @@ fn is_done(
         "rounds" => rounds(&mut text, &mut dice, size)?,
         "dominoes" => dominoes(&mut text, &mut dice, size)?,
         "claims" => {
-            claim(
-                alloc,
-                digest,
-                &mut dice,
-                processes_of(input),
-                mode_of(input),
-                size,
-            )?;
+            // Fewer processes where links keep their order.
+            let n = if input % 2 == 0 { 12u32 } else { 64 };
+            claim(alloc, digest, &mut dice, n, mode_of(input), size)?;
             return Ok(true);
         }
         "plans" => {

@@ -187,22 +187,9 @@ pub fn rounds(text: &mut Text, dice: &mut Dice, records: u32) -> Result<(), Allo
     text.record("recover", &[failed])
 }
 
-/// Each process sends on what it has received, with a check after each receipt but the last, so
-/// that a failure has all go back to their beginnings.
-fn domino(text: &mut Text, dice: &mut Dice, steps: u32) -> Result<(), AllocError> {
-    for step in 0..steps {
-        let p = step % MANY;
-        let q = (p + 1) % MANY;
-        text.send(dice, p, q, 1)?;
-        text.deliver(dice, p, q, 0, 0)?;
-        if step < steps.saturating_sub(1) {
-            text.state("check", dice, q, 1)?;
-        }
-    }
-    Ok(())
-}
-
-/// Long dominoes among 64 processes and many short ones, each ended by a failure.
+/// Long dominoes among 64 processes and many short ones, each ended by a failure. Each process
+/// sends on what it has received, with a check after each receipt but the last, so that the failure
+/// has all go back to their beginnings.
 pub fn dominoes(text: &mut Text, dice: &mut Dice, records: u32) -> Result<(), AllocError> {
     text.world(MANY, "fifo")?;
     for failure in 0..records / 1_200 {
@@ -211,7 +198,15 @@ pub fn dominoes(text: &mut Text, dice: &mut Dice, records: u32) -> Result<(), Al
         } else {
             65 + dice.below(70)
         };
-        domino(text, dice, steps)?;
+        for step in 0..steps {
+            let p = step % MANY;
+            let q = (p + 1) % MANY;
+            text.send(dice, p, q, 1)?;
+            text.deliver(dice, p, q, 0, 0)?;
+            if step < steps.saturating_sub(1) {
+                text.state("check", dice, q, 1)?;
+            }
+        }
         let failed = steps % MANY;
         if failure % 100 == 50 {
             text.record("bundle", &[failed])?;

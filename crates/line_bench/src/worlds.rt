@@ -75,22 +75,6 @@ pub fn add_plan(digest: &mut Digest, plan: &Plan) {
     digest.number(plan.replays.len() as u64);
 }
 
-/// Adds the round of a check, if one was taken. Rounds have numbers of 32 bits.
-fn add_forced(digest: &mut Digest, forced: &Option<u32>) {
-    match forced {
-        Some(round) => digest.number(u64::from(*round)),
-        None => digest.number(u64::MAX),
-    }
-}
-
-/// Adds the bytes that a process goes on from, if it goes back.
-fn add_state(digest: &mut Digest, state: &Option<State>) {
-    digest.number(u64::from(state.is_some()));
-    if let Some(state) = state {
-        digest.bytes(state.bytes());
-    }
-}
-
 /// The number of a kind of reply.
 fn kind_of(reply: &Reply) -> u64 {
     match reply {
@@ -117,7 +101,11 @@ fn add_reply(digest: &mut Digest, reply: &Reply) {
         }
         Reply::Took { message, forced } => {
             add_name(digest, message);
-            add_forced(digest, forced);
+            // Rounds have numbers of 32 bits.
+            match forced {
+                Some(round) => digest.number(u64::from(*round)),
+                None => digest.number(u64::MAX),
+            }
         }
         Reply::Marked { round, forced } => {
             digest.number(u64::from(*round));
@@ -140,7 +128,10 @@ fn add_reply(digest: &mut Digest, reply: &Reply) {
         } => {
             add_plan(digest, plan);
             for state in states {
-                add_state(digest, state);
+                digest.number(u64::from(state.is_some()));
+                if let Some(state) = state {
+                    digest.bytes(state.bytes());
+                }
             }
             for incarnation in incarnations {
                 digest.number(u64::from(*incarnation));
