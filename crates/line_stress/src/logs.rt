@@ -18,16 +18,6 @@ pub struct AnswerLog {
     pub faults: u32,
 }
 
-/// The CRC-32 of what came before and one byte more.
-fn with_byte(digest: u32, byte: u8) -> u32 {
-    let mut value = digest ^ u32::from(byte);
-    for _bit in 0..8 {
-        let mask = 0u32.wrapping_sub(value & 1);
-        value = (value >> 1) ^ (0xEDB8_8320 & mask);
-    }
-    value
-}
-
 impl AnswerLog {
     /// No call yet, where the tape has so many events.
     pub fn new(opening: u32) -> AnswerLog {
@@ -48,7 +38,11 @@ impl AnswerLog {
 
     fn bytes(&mut self, bytes: &[u8]) {
         for byte in bytes {
-            self.digest = with_byte(self.digest, *byte);
+            self.digest ^= u32::from(*byte);
+            for _bit in 0..8 {
+                let mask = 0u32.wrapping_sub(self.digest & 1);
+                self.digest = (self.digest >> 1) ^ (0xEDB8_8320 & mask);
+            }
         }
     }
 

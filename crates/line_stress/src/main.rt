@@ -19,8 +19,7 @@ mod watches;
 mod workers;
 
 use crate::dice::Dice;
-use crate::logs::AnswerLog;
-use crate::settings::{Settings, capacity, next_settings, workers};
+use crate::settings::{capacity, next_settings, workers};
 use crate::texts::{Text, own_history, print_history, process};
 use crate::watches::is_right;
 use crate::workers::RandomWork;
@@ -53,14 +52,6 @@ struct Place {
     capacity: usize,
 }
 
-/// How many calls a worker makes: all, or where it fails fewer.
-fn turns_of(dice: &mut Dice, settings: &Settings, fails: bool) -> u32 {
-    if fails {
-        return dice.below(settings.turns.max(1));
-    }
-    settings.turns
-}
-
 /// What the workers of the next generation do.
 fn next_work(alloc: Global, dice: &mut Dice, n: u32, marks: &Marks) -> Result<RandomWork> {
     let settings = next_settings(dice, n);
@@ -69,13 +60,14 @@ fn next_work(alloc: Global, dice: &mut Dice, n: u32, marks: &Marks) -> Result<Ra
     let mut failed = ProcSet::empty();
     let mut everyone = ProcSet::empty();
     for p in 0..n {
-        let fails = dice.percent(settings.failures);
         let p = process(p, n)?;
         everyone = everyone.with(p);
-        if fails {
+        if dice.percent(settings.failures) {
             failed = failed.with(p);
+            turns.push(dice.below(settings.turns.max(1)))?;
+        } else {
+            turns.push(settings.turns)?;
         }
-        turns.push(turns_of(dice, &settings, fails))?;
         logs.push(OnceLock::new())?;
     }
     Ok(RandomWork {
@@ -92,18 +84,6 @@ fn next_work(alloc: Global, dice: &mut Dice, n: u32, marks: &Marks) -> Result<Ra
         logs,
         watch: OnceLock::new(),
     })
-}
-
-/// What each worker remembers.
-fn logs_of(alloc: Global, work: &RandomWork) -> Result<Vec<Option<AnswerLog>>> {
-    let mut logs = Vec::new(alloc);
-    for cell in &work.logs {
-        match cell.get() {
-            Some(log) => logs.push(Some(*log))?,
-            None => logs.push(None)?,
-        }
-    }
-    Ok(logs)
 }
 
 /// Prints what a generation did before it was gathered.
@@ -127,31 +107,14 @@ fn tell_workers<R: Print>(
             text.row("failed", &[u64::from(p)])?;
         }
     }
-    text.logs(&logs_of(alloc, work)?)?;
+    for (p, cell) in work.logs.iter().enumerate() {
+        if let Some(log) = cell.get() {
+            text.log(p, log)?;
+        }
+    }
     text.print(rt)?;
     print_history(rt, alloc, "own", &own_history(alloc, collector, posts)?)?;
     print_history(rt, alloc, "collected", collector.history())
-}
-
-/// A generation from its opening to what is gathered of it.
-fn generation<R: Threads + Wait + Sync + Print>(
-    rt: &R,
-    alloc: Global,
-    text: &mut Text,
-    place: Place,
-    work: &RandomWork,
-    collector: Collector,
-    posts: Vec<Post>,
-) -> Result<Gathered>
-    requires generation { IsGeneration posts.items }
-    requires lines { AreLined collector posts.items }
-{
-    let (collector, posts) = run_crew(rt, work, collector, posts)?;
-    tell_workers(rt, alloc, text, place, work, &collector, &posts)?;
-    match gather(collector, posts, work.failed) {
-        Ok(gathered) => Ok(gathered),
-        Err(refused) => Err(refused.why.into()),
-    }
 }
 
 /// Marks some check of some process as damaged, or is refused.
@@ -217,20 +180,30 @@ fn events_in(history: &History) -> u64 {
     events
 }
 
-/// The first generation of a lineage.
-fn first<R: Threads + Wait + Sync + Print>(
+/// A generation from its opening to what is gathered of it.
+fn generation<R: Threads + Wait + Sync + Print>(
     rt: &R,
     alloc: Global,
     dice: &mut Dice,
     text: &mut Text,
     place: Place,
+    collector: Collector,
+    posts: Vec<Post>,
     marks: &mut Marks,
-) -> Result<Gathered> {
+) -> Result<Gathered>
+    requires generation { IsGeneration posts.items }
+    requires lines { AreLined collector posts.items }
+{
     let work = next_work(alloc, dice, place.n, marks)?;
-    let (collector, posts) = fleet(alloc, place.n, place.capacity)?;
-    let mut gathered = generation(rt, alloc, text, place, &work, collector, posts)?;
-    tell_gathered(rt, alloc, dice, text, &work, &mut gathered, marks)?;
-    Ok(gathered)
+    let (collector, posts) = run_crew(rt, &work, collector, posts)?;
+    tell_workers(rt, alloc, text, place, &work, &collector, &posts)?;
+    match gather(collector, posts, work.failed) {
+        Ok(mut gathered) => {
+            tell_gathered(rt, alloc, dice, text, &work, &mut gathered, marks)?;
+            Ok(gathered)
+        }
+        Err(refused) => Err(refused.why.into()),
+    }
 }
 
 /// The next generation of a lineage.
@@ -250,10 +223,7 @@ fn next<R: Threads + Wait + Sync + Print>(
             if marks.processes() <= plan.line.choices().len() {
                 marks.restart(&plan.line);
             }
-            let work = next_work(alloc, dice, place.n, marks)?;
-            let mut gathered = generation(rt, alloc, text, place, &work, collector, posts)?;
-            tell_gathered(rt, alloc, dice, text, &work, &mut gathered, marks)?;
-            Ok(gathered)
+            generation(rt, alloc, dice, text, place, collector, posts, marks)
         }
         Err(refused) => Err(refused.why.into()),
     }
@@ -277,7 +247,10 @@ fn lineage<R: Threads + Wait + Sync + Print>(
         capacity: capacity(&mut dice),
     };
     let mut marks = Marks::new(alloc, n)?;
-    let mut gathered = first(rt, alloc, &mut dice, text, place, &mut marks)?;
+    let (collector, posts) = fleet(alloc, n, place.capacity)?;
+    let mut gathered = generation(
+        rt, alloc, &mut dice, text, place, collector, posts, &mut marks,
+    )?;
     for generation in 1..dice.to(MOST_GENERATIONS) {
         if events_in(gathered.history()) > MANY_EVENTS {
             return Ok(());

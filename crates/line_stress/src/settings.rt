@@ -33,17 +33,7 @@ pub struct Settings {
 
 /// One of four numbers.
 fn one_of(dice: &mut Dice, numbers: [u32; 4]) -> u32 {
-    let at = dice.below(4);
-    if at == 0 {
-        return numbers[0];
-    }
-    if at == 1 {
-        return numbers[1];
-    }
-    if at == 2 {
-        return numbers[2];
-    }
-    numbers[3]
+    numbers[dice.below(4) as usize]
 }
 
 /// How many workers there are.
@@ -79,42 +69,26 @@ fn turns(dice: &mut Dice, n: u32) -> u32 {
 
 /// What the next generation of `n` workers is like.
 pub fn next_settings(dice: &mut Dice, n: u32) -> Settings {
-    let turns = turns(dice, n);
-    let meets = dice.percent(80);
-    let reach = if dice.percent(50) {
-        n
-    } else {
-        one_of(dice, [1, 2, 3, 5])
-    };
-    let sends = one_of(dice, [20, 30, 35, 45]);
-    let receives = one_of(dice, [20, 30, 35, 30]);
-    let checks = one_of(dice, [2, 5, 10, 15]);
-    let reports = one_of(dice, [1, 5, 10, 20]);
-    let sweeps = one_of(dice, [0, 2, 5, 15]);
-    let begins = one_of(dice, [0, 2, 5, 10]);
-    let yields = one_of(dice, [0, 2, 10, 40]);
-    let state = one_of(dice, [0, 1, 8, 200]);
-    let body = one_of(dice, [0, 1, 8, 64]);
-    let failures = one_of(dice, [0, 20, 50, 100]);
-    let plans = one_of(dice, [5, 20, 50, 100]);
-    let takes = one_of(dice, [1, 7, 64, 1_000_000]);
-    let damages = one_of(dice, [0, 0, 2, 5]);
     Settings {
-        turns,
-        meets,
-        reach,
-        sends,
-        receives,
-        checks,
-        reports,
-        sweeps,
-        begins,
-        yields,
-        state,
-        body,
-        failures,
-        plans,
-        takes,
-        damages,
+        turns: turns(dice, n),
+        meets: dice.percent(80),
+        reach: if dice.percent(50) {
+            n
+        } else {
+            one_of(dice, [1, 2, 3, 5])
+        },
+        sends: one_of(dice, [20, 30, 35, 45]),
+        receives: one_of(dice, [20, 30, 35, 30]),
+        checks: one_of(dice, [2, 5, 10, 15]),
+        reports: one_of(dice, [1, 5, 10, 20]),
+        sweeps: one_of(dice, [0, 2, 5, 15]),
+        begins: one_of(dice, [0, 2, 5, 10]),
+        yields: one_of(dice, [0, 2, 10, 40]),
+        state: one_of(dice, [0, 1, 8, 200]),
+        body: one_of(dice, [0, 1, 8, 64]),
+        failures: one_of(dice, [0, 20, 50, 100]),
+        plans: one_of(dice, [5, 20, 50, 100]),
+        takes: one_of(dice, [1, 7, 64, 1_000_000]),
+        damages: one_of(dice, [0, 0, 2, 5]),
     }
 }

@@ -1,7 +1,7 @@
 //! What a generation did, as records for a checker of another make.
 
 use crate::logs::AnswerLog;
-use crate::watches::{LivePlan, Watch};
+use crate::watches::Watch;
 use anyhow::Result;
 use line_claims::write_history;
 use line_names::{Choice, MOST_PROCESSES, MsgName, ProcId, ProcIdError};
@@ -83,7 +83,7 @@ impl Text {
     }
 
     /// What a worker remembers.
-    fn log(&mut self, p: usize, log: &AnswerLog) -> Result<()> {
+    pub fn log(&mut self, p: usize, log: &AnswerLog) -> Result<()> {
         self.row(
             "log",
             &[
@@ -97,27 +97,8 @@ impl Text {
         )
     }
 
-    /// What each worker remembers.
-    pub fn logs(&mut self, logs: &[Option<AnswerLog>]) -> Result<()> {
-        for (p, log) in logs.iter().enumerate() {
-            if let Some(log) = log {
-                self.log(p, log)?;
-            }
-        }
-        Ok(())
-    }
-
-    /// A plan that was made while the workers ran.
-    fn live(&mut self, live: &LivePlan) -> Result<()> {
-        self.text.push_str("live")?;
-        for events in &live.events {
-            write!(self.text, ",{events}")?;
-        }
-        self.text.push_str("\n")?;
-        self.plan(&live.plan)
-    }
-
-    /// What the collector saw, and how many of its lines are consistent in the gathered history.
+    /// What the collector saw, how many of its lines are consistent in the gathered history, and
+    /// some plans that were made while the workers ran.
     pub fn watch(&mut self, watch: &Watch, gathered: &History) -> Result<()> {
         let planned = watch.lines.len() as u64;
         let kept = u64::from(watch.kept_in(gathered));
@@ -126,7 +107,12 @@ impl Text {
             &[watch.taken, planned, kept, u64::from(watch.faults)],
         )?;
         for live in &watch.plans {
-            self.live(live)?;
+            self.text.push_str("live")?;
+            for events in &live.events {
+                write!(self.text, ",{events}")?;
+            }
+            self.text.push_str("\n")?;
+            self.plan(&live.plan)?;
         }
         Ok(())
     }

@@ -27,18 +27,6 @@ pub struct Watch {
     pub faults: u32,
 }
 
-/// How many events each tape has.
-pub fn events_of(alloc: Global, history: &History) -> Result<Vec<u32>, AllocError> {
-    let mut events = Vec::new(alloc);
-    let n = history.n();
-    for p in 0..n {
-        if let Ok(p) = ProcId::try_new(p, n) {
-            events.push(history.tape(p).len())?;
-        }
-    }
-    Ok(events)
-}
-
 /// The same choices in a line of its own.
 fn same_line(line: &Line) -> Line {
     let mut same = Line::new();
@@ -72,13 +60,24 @@ impl Watch {
         self.faults = self.faults.wrapping_add(1);
     }
 
-    /// So many reports were taken.
-    pub fn took(&mut self, taken: u32) {
-        self.taken = self.taken.wrapping_add(u64::from(taken));
-    }
-
-    /// Keeps a plan whole: one of the first, or in the place of a random one.
-    fn keep(&mut self, dice: &mut Dice, live: LivePlan) -> Result<(), AllocError> {
+    /// Keeps the line of a plan, and perhaps all of it: one of the first, or in the place of a
+    /// random one.
+    fn keep(
+        &mut self,
+        alloc: Global,
+        dice: &mut Dice,
+        history: &History,
+        plan: Plan,
+    ) -> Result<(), AllocError> {
+        self.lines.push(same_line(&plan.line))?;
+        let mut events = Vec::new(alloc);
+        let n = history.n();
+        for p in 0..n {
+            if let Ok(p) = ProcId::try_new(p, n) {
+                events.push(history.tape(p).len())?;
+            }
+        }
+        let live = LivePlan { events, plan };
         if self.plans.len() < KEPT {
             self.plans.push(live)?;
             return Ok(());
@@ -88,19 +87,6 @@ impl Watch {
             self.plans[at] = live;
         }
         Ok(())
-    }
-
-    /// Keeps the line of a plan, and perhaps all of it.
-    fn note(
-        &mut self,
-        alloc: Global,
-        dice: &mut Dice,
-        collector: &Collector,
-        plan: Plan,
-    ) -> Result<(), AllocError> {
-        self.lines.push(same_line(&plan.line))?;
-        let events = events_of(alloc, collector.history())?;
-        self.keep(dice, LivePlan { events, plan })
     }
 
     /// Plans of what was collected, has the checker judge the plan, and keeps it.
@@ -119,7 +105,7 @@ impl Watch {
         if !is_right(collector.history(), marks, everyone, &plan) {
             self.fault();
         }
-        if self.note(alloc, dice, collector, plan).is_err() {
+        if self.keep(alloc, dice, collector.history(), plan).is_err() {
             self.fault();
         }
     }

@@ -48,14 +48,16 @@ fn random_body(dice: &mut Dice, most: u32) -> Option<Body> {
     Body::try_new(bytes.get(..len)?).ok()
 }
 
-/// A state of random length and bytes.
-fn random_state(alloc: Global, dice: &mut Dice, most: u32) -> Option<State> {
+/// A state of random length and bytes, twice.
+fn random_states(alloc: Global, dice: &mut Dice, most: u32) -> Option<(State, State)> {
     let mut bytes = Vec::new(alloc);
     let len = dice.below(most.min(4_096) + 1);
     for _byte in 0..len {
         bytes.push((dice.word() >> 56) as u8).ok()?;
     }
-    Some(State::of(bytes))
+    let state = State::of(bytes);
+    let same = state.copy(alloc).ok()?;
+    Some((state, same))
 }
 
 impl RandomWork {
@@ -96,14 +98,14 @@ impl RandomWork {
         }
     }
 
-    /// Receives from that worker, if there is something.
-    fn receive(&self, dice: &mut Dice, log: &mut AnswerLog, post: &mut Post, from: ProcId)
+    /// Receives from the worker so many places after another, if there is something.
+    fn receive(&self, dice: &mut Dice, log: &mut AnswerLog, post: &mut Post, p: u32, places: u32)
         ensures { IsSamePost post.old post.new }
     {
-        let Some(state) = random_state(self.alloc, dice, self.settings.state) else {
+        let Some(from) = self.after(p, places) else {
             return;
         };
-        let Ok(same) = state.copy(self.alloc) else {
+        let Some((state, same)) = random_states(self.alloc, dice, self.settings.state) else {
             return;
         };
         match post.receive(from, state) {
@@ -123,29 +125,12 @@ impl RandomWork {
         }
     }
 
-    /// Receives from the worker so many places after another.
-    fn receive_after(
-        &self,
-        dice: &mut Dice,
-        log: &mut AnswerLog,
-        post: &mut Post,
-        p: u32,
-        places: u32,
-    )
-        ensures { IsSamePost post.old post.new }
-    {
-        let Some(from) = self.after(p, places) else {
-            return;
-        };
-        self.receive(dice, log, post, from);
-    }
-
     /// Receives from one of those that send to it.
     fn receive_one(&self, dice: &mut Dice, log: &mut AnswerLog, post: &mut Post)
         ensures { IsSamePost post.old post.new }
     {
         let places = dice.to(self.settings.reach.max(1)) % self.n.max(1);
-        self.receive_after(dice, log, post, post.number(), self.n.wrapping_sub(places));
+        self.receive(dice, log, post, post.number(), self.n.wrapping_sub(places));
     }
 
     /// Receives from each other worker once.
@@ -154,7 +139,7 @@ impl RandomWork {
     {
         let start = dice.below(self.n.max(1));
         for places in 0..self.n {
-            self.receive_after(dice, log, post, start, places);
+            self.receive(dice, log, post, start, places);
         }
     }
 
@@ -162,10 +147,7 @@ impl RandomWork {
     fn check(&self, dice: &mut Dice, log: &mut AnswerLog, post: &mut Post)
         ensures { IsSamePost post.old post.new }
     {
-        let Some(state) = random_state(self.alloc, dice, self.settings.state) else {
-            return;
-        };
-        let Ok(same) = state.copy(self.alloc) else {
+        let Some((state, same)) = random_states(self.alloc, dice, self.settings.state) else {
             return;
         };
         match post.check(state) {
@@ -178,10 +160,7 @@ impl RandomWork {
     fn begin(&self, dice: &mut Dice, log: &mut AnswerLog, post: &mut Post)
         ensures { IsSamePost post.old post.new }
     {
-        let Some(state) = random_state(self.alloc, dice, self.settings.state) else {
-            return;
-        };
-        let Ok(same) = state.copy(self.alloc) else {
+        let Some((state, same)) = random_states(self.alloc, dice, self.settings.state) else {
             return;
         };
         let is_lead = post.number() == 0;
@@ -249,14 +228,6 @@ impl RandomWork {
         yield_now();
     }
 
-    /// How many calls worker `p` makes.
-    fn turns_of(&self, p: u32) -> u32 {
-        match self.turns.get(p as usize) {
-            Some(turns) => *turns,
-            None => 0,
-        }
-    }
-
     /// Waits until all workers have started, where they are to meet.
     fn meet(&self) {
         self.started.fetch_add(1, Ordering::SeqCst);
@@ -271,14 +242,6 @@ impl RandomWork {
         }
     }
 
-    /// Keeps what a worker remembers, and counts it as ended.
-    fn keep(&self, p: u32, log: AnswerLog) {
-        if let Some(cell) = self.logs.get(p as usize) {
-            let _ = cell.try_set(log);
-        }
-        self.ended.fetch_add(1, Ordering::SeqCst);
-    }
-
     /// The collector takes reports, and plans as often as it should, mostly of new ones.
     fn look(&self, dice: &mut Dice, watch: &mut Watch, collector: &mut Collector)
         ensures { HasCollectedMore collector.old collector.new }
@@ -287,7 +250,7 @@ impl RandomWork {
         match collector.take(self.settings.takes) {
             Ok(taken) => {
                 is_new = taken > 0;
-                watch.took(taken);
+                watch.taken = watch.taken.wrapping_add(u64::from(taken));
             }
             Err(_) => watch.fault(),
         }
@@ -306,10 +269,17 @@ impl Work for RandomWork {
         let mut dice = Dice::new(self.seed ^ (u64::from(p) << 40));
         let mut log = AnswerLog::new(post.tape().len());
         self.meet();
-        for _turn in 0..self.turns_of(p) {
+        let turns = match self.turns.get(p as usize) {
+            Some(turns) => *turns,
+            None => 0,
+        };
+        for _turn in 0..turns {
             self.turn(&mut dice, &mut log, &mut post);
         }
-        self.keep(p, log);
+        if let Some(cell) = self.logs.get(p as usize) {
+            let _ = cell.try_set(log);
+        }
+        self.ended.fetch_add(1, Ordering::SeqCst);
         post
     }
 
