@@ -118,6 +118,7 @@ impl Receipts {
 
     /// Makes room for so many further receipts and their senders, and tells for how many receipts
     /// there is room then, where their senders have it.
+    #[inline(always)]
     pub fn reserve(&mut self, k: usize) -> Result<usize, AllocError>
         ensures same { self.new.names ≡ self.old.names }
         ensures ok { IfOk result (λ room. (room ≡ self.new.room)
@@ -127,7 +128,9 @@ impl Receipts {
         ensures senders { self.old.senders ≤ self.new.senders }
     {
         self.receipts.reserve(k)?;
-        self.last.reserve(k)?;
+        if !self.last.has_room(k) {
+            self.last.reserve(k)?;
+        }
         Ok(self.receipts.capacity() - self.receipts.len())
     }
 

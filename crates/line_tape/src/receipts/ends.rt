@@ -75,8 +75,9 @@ impl LastLinks {
         k <= (capacity - self.links.len()) / 16 || capacity >= 256
     }
 
-    /// Makes room for so many further senders. There are 256 at most, so it never takes more than
-    /// their room.
+    /// Makes room for so many further senders, where `has_room` finds none. There are 256 at most,
+    /// so it never takes more than their room.
+    #[inline(never)]
     pub fn reserve(&mut self, k: usize) -> Result<(), AllocError>
         ensures same { (sender : ℕ)
             → link_of_sender self.new sender ≡ link_of_sender self.old sender }
