@@ -28,7 +28,7 @@ use Rattle.line_world.specs.Codes.{refusal_code}
 use Rattle.line_answers.specs.Replies.{reply_records, refusal_record as refused_record}
 use Rattle.line_answers.specs.Rounds.{rounds_records}
 use Rattle.line_answers.specs.declared.halts.Halt.TheVariants as halts
-use Rattle.line_answers.specs.Answers.{CommandAnswer, Answered, Refused, Listing, Shown, Claimed, IsClaimFor, command_answer_records, is_refused, Tells, TellsAll, text_of, refusals, DoesCommand, DoesFront}
+use Rattle.line_answers.specs.Answers.{CommandAnswer, Answered, Refused, Listing, Shown, Claimed, Planned, Judged, IsClaimFor, command_answer_records, is_refused, Tells, TellsAll, text_of, refusals, DoesCommand, DoesFront}
 
 -- runs, one after the other
 pub TellsAll-both : (old mid new : Machine) (commands others : List Command) (told more : List CommandAnswer) → TellsAll old commands told mid → TellsAll mid others more new → TellsAll old (commands ++ others) (told ++ more) new
@@ -61,14 +61,17 @@ one_refusal (Refused code) = omega arith
 one_refusal (Listing n rounds) = omega arith
 one_refusal (Shown history) = omega arith
 one_refusal (Claimed history claim) = omega arith
+one_refusal (Planned (answers.Done reply)) = omega arith
+one_refusal (Planned (answers.Refused error)) = omega arith
+one_refusal (Judged history claim) = omega arith
 
 -- a text was put but for its end, seen as what a command is told
-does : (old new : Machine) (command : Command) (told : CommandAnswer) (taken now : Option (List ℕ)) (held later text : List ℕ) → Tells old command told new → records_text (command_answer_records told) ≡ text → PutsButEnd taken now later (held ++ text)
+pub does : (old new : Machine) (command : Command) (told : CommandAnswer) (taken now : Option (List ℕ)) (held later text : List ℕ) → Tells old command told new → records_text (command_answer_records told) ≡ text → PutsButEnd taken now later (held ++ text)
     → DoesCommand old command new taken now held later (is_refused told)
 does old new command told taken now held later text tells same put =
     record { told = told; tells = tells; counted = refl; put = subst (λ (t : List ℕ). PutsButEnd taken now later (held ++ t)) (sym same) put }
 
-does_front : (old new : Machine) (command : Command) (told : CommandAnswer) (taken now : Option (List ℕ)) (held text : List ℕ) → Tells old command told new → records_text (command_answer_records told) ≡ text → PutsFront taken now (held ++ text)
+pub does_front : (old new : Machine) (command : Command) (told : CommandAnswer) (taken now : Option (List ℕ)) (held text : List ℕ) → Tells old command told new → records_text (command_answer_records told) ≡ text → PutsFront taken now (held ++ text)
     → DoesFront old command new taken now held
 does_front old new command told taken now held text tells same put =
     record { told = told; tells = tells; put = subst (λ (t : List ℕ). PutsFront taken now (held ++ t)) (sym same) put }
@@ -120,7 +123,7 @@ shown_front old taken now held put = does_front old old commands.History (Shown 
 
 -- the claim of a plan
 abbrev pub claim_of : Machine → List Bool → Plan → Claim
-claim_of machine failed plan = record { marks = in_order machine.history machine.marks; failed = failed; line = plan.line; certificate = plan.certificate.items }
+claim_of machine failed plan = record { marks = in_order machine.history machine.marks; failed = failed; line = plan.line; certificate = plan.certificate.items; starts = []; replays = [] }
 
 claim_for : (old : Machine) (failed : List Bool) (plan : Plan) → (IsTrue (has_stranger old failed) → ⊥) → IsPlan old failed plan → IsClaimFor old failed (claim_of old failed plan)
 claim_for old failed plan there planned = record { there = there; plan = plan; planned = planned; claim_is = refl }

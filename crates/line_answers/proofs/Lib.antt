@@ -1,2 +1,4 @@
 pub mod AnswerLemmas
 pub mod ListingLemmas
+pub mod LiveLemmas
+pub mod ViewLemmas

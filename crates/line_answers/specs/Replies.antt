@@ -60,10 +60,10 @@ damaged_record p check = codes "damaged" ∷ decimal p ∷ decimal check ∷ []
 abbrev pub barred_record : ℕ → ℕ → Record
 barred_record p check = codes "barred" ∷ decimal p ∷ decimal check ∷ []
 
--- recovered,SWEEPS,ENTRIES,REPLAYS
-abbrev pub recovered_record : ℕ → ℕ → ℕ → Record
-recovered_record sweeps entries replays =
-    codes "recovered" ∷ decimal sweeps ∷ decimal entries ∷ decimal replays ∷ []
+-- WORD,SWEEPS,ENTRIES,REPLAYS: `recovered` of a recovery, and `planned` of one that is only told of
+abbrev pub recovered_record : List ℕ → ℕ → ℕ → ℕ → Record
+recovered_record word sweeps entries replays =
+    word ∷ decimal sweeps ∷ decimal entries ∷ decimal replays ∷ []
 
 -- the state that a process goes on from, where it is a stored one
 abbrev pub state_text : Option (List ℕ) → List ℕ
@@ -98,12 +98,12 @@ replay_record m = codes "replay" ∷ name_fields m
 abbrev pub replay_records : List MsgName → List Record
 replay_records replays = map replay_record replays
 
--- the records of a recovery
-abbrev pub recovery_records : ℕ → List Passed → List MsgName → List Choice → List ℕ
+-- the records of a recovery, the first of which begins with this word
+abbrev pub recovery_records : List ℕ → ℕ → List Passed → List MsgName → List Choice → List ℕ
     → List (Option (List ℕ))
     → List Record
-recovery_records sweeps entries replays choices incarnations states =
-    recovered_record sweeps (length entries) (length replays)
+recovery_records word sweeps entries replays choices incarnations states =
+    recovered_record word sweeps (length entries) (length replays)
     ∷ (process_records choices incarnations states
     ++ (pass_records entries ++ replay_records replays))
 
@@ -124,11 +124,20 @@ reply_records (Turned at check round) = turned_record at check round ∷ []
 reply_records (Damaged at check) = damaged_record at check ∷ []
 reply_records (Barred at check) = barred_record at check ∷ []
 reply_records (Recovered plan states incarnations) =
-    recovery_records plan.value.sweeps plan.value.certificate.items plan.value.replays.items
-    plan.value.line
-    incarnations.items states.items
+    recovery_records (codes "recovered") plan.value.sweeps plan.value.certificate.items
+    plan.value.replays.items
+    plan.value.line incarnations.items states.items
 
 -- the records of an answer
 abbrev pub answer_records : Answer → List Record
 answer_records (answers.Done reply) = reply_records reply
 answer_records (answers.Refused error) = refusal_record (refusal_code error) ∷ []
+
+-- the records of what a recovery would be answered
+abbrev pub planned_records : Answer → List Record
+planned_records (answers.Done (Recovered plan states incarnations)) =
+    recovery_records (codes "planned") plan.value.sweeps plan.value.certificate.items
+    plan.value.replays.items
+    plan.value.line incarnations.items states.items
+planned_records (answers.Done other) = []
+planned_records (answers.Refused error) = refusal_record (refusal_code error) ∷ []

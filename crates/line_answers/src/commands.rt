@@ -8,6 +8,7 @@ ghost use Rattle.line_scripts.specs.Shown.{HasShortBodyInStep, command_of_ref};
 use crate::halts::Halt;
 use crate::listings::put_rounds;
 use crate::replies::{put_refusal, put_reply};
+use crate::views::{put_live, put_plan, put_whole_answer};
 use line_claims::{earliest_version, put_check_text, put_history};
 use line_devices::Sink;
 use line_fields::{Fault, RecordWriter};
@@ -117,5 +118,8 @@ pub fn do_command<K: Sink>(
                 Ok(true)
             }
         },
+        CommandRef::Plan(failed) => put_plan(alloc, world, sink, writer, failed),
+        CommandRef::Live => put_live(alloc, world, sink, writer),
+        CommandRef::Answer(failed) => put_whole_answer(alloc, world, sink, writer, failed),
     }
 }

@@ -4,10 +4,13 @@
 
 mod commands;
 mod halts;
+mod laws;
 mod listings;
 mod replies;
 mod rounds;
+mod views;
 
 pub use commands::do_command;
 pub use halts::Halt;
+pub use laws::live_lines_stay;
 pub use replies::{put_refusal, put_reply, write_reply};

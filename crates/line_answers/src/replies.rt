@@ -13,7 +13,7 @@ use line_devices::{DeviceFault, MemSink, Sink, put_all};
 use line_fields::{Field, RecordWriter, put_ending, put_numbers};
 use line_names::{MsgName, ProcId};
 use line_world::Reply;
-use recoveries::put_recovery;
+pub(crate) use recoveries::put_recovery;
 use std::alloc::{AllocError, Global};
 
 // Writes a record of a name and a message. Like `put_took` it is put into its caller, so that its
@@ -131,7 +131,7 @@ pub fn put_reply<K: Sink>(
             plan,
             states,
             incarnations,
-        } => put_recovery(sink, writer, plan, incarnations, states),
+        } => put_recovery(sink, writer, b"recovered", plan, incarnations, states),
     }
 }
 

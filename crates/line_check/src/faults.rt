@@ -25,7 +25,7 @@ impl LineFault {
     }
 }
 
-/// What is wrong with a claim, or with one of its entries.
+/// What is wrong with a claim or an answer, or with one of its entries.
 #[derive(Clone, Copy, Debug, PartialEq, Eq, Hash, Error)]
 pub enum FaultCode {
     /// The entry's choice is not the present ceiling of its process.
@@ -46,6 +46,24 @@ pub enum FaultCode {
     /// The claim names what the history does not have.
     #[error("the claim names what the history does not have")]
     BadShape = 16,
+    /// The state that the process goes on from is not that of its choice.
+    #[error("the state is not that of the process's choice")]
+    StateDiffers = 41,
+    /// The incarnation that the process goes on in is not the one after a restart.
+    #[error("the incarnation is not the one that the process has after a restart")]
+    IncarnationDiffers = 42,
+    /// The message is not sent before the line, or is received before it.
+    #[error("the message is not in transit at the line")]
+    NotInTransit = 43,
+    /// The addressee, the place or the body is not that of the message's Send.
+    #[error("the addressee, the place or the body is not that of the message's send")]
+    ReplayDiffers = 44,
+    /// The message stands there already, or out of order.
+    #[error("the message does not follow those before it by sender and number")]
+    ReplayRepeated = 45,
+    /// A message is in transit at the line and not sent again.
+    #[error("a message in transit at the line is not sent again")]
+    ReplayMissing = 46,
 }
 
 impl FaultCode {
@@ -57,12 +75,18 @@ impl FaultCode {
         ensures differs { self ≡ FaultCode.LineDiffers → result ≡ 14 }
         ensures consistent { self ≡ FaultCode.NotConsistent → result ≡ 15 }
         ensures shape { self ≡ FaultCode.BadShape → result ≡ 16 }
+        ensures state { self ≡ FaultCode.StateDiffers → result ≡ 41 }
+        ensures incarnation { self ≡ FaultCode.IncarnationDiffers → result ≡ 42 }
+        ensures transit { self ≡ FaultCode.NotInTransit → result ≡ 43 }
+        ensures send { self ≡ FaultCode.ReplayDiffers → result ≡ 44 }
+        ensures repeated { self ≡ FaultCode.ReplayRepeated → result ≡ 45 }
+        ensures missing { self ≡ FaultCode.ReplayMissing → result ≡ 46 }
     {
         self as u32
     }
 }
 
-/// Why a claim is refused: the first thing that is wrong with it.
+/// Why a claim or an answer is refused: the first thing that is wrong with it.
 #[derive(Clone, Copy, Debug, PartialEq, Eq, Hash, Error)]
 #[error(fmt = write_fault)]
 pub struct CertFault {

@@ -19,7 +19,7 @@ use Rattle.line_claims.specs.Parts.{Part, begins, many, is_named, one}
 use Rattle.line_claims.specs.Ranges.{IsHistoryInRange, IsEventInRange, IsTapeInRange}
 use Rattle.line_claims.specs.Records.{event_record, front_records, tape_record, tapes_records}
 use Rattle.line_claims.specs.Texts.{history_of}
-use Rattle.line_claims.specs.Versions.{IsVersion, most_in}
+use Rattle.line_claims.specs.Versions.{IsCheckVersion, most_in}
 use Rattle.line_claims.proofs.ReadingLemmas.{first_more, many_end}
 use Rattle.line_claims.proofs.SpellLemmas.{event_again, event_is_event, head_again, tape_again}
 
@@ -133,11 +133,11 @@ front_again version history more fit ends =
     tapes_again n [] history (replicate n fresh) 0 2 more ends refl refl none fit.few fit.tapes
 
 -- its first record announces it
-pub first_again : (version : ℕ) (history : List Process) (more : List Record) → IsVersion version → IsHistoryInRange history → length history ≤ most_in version
+pub first_again : (version : ℕ) (history : List Process) (more : List Record) → IsCheckVersion version → IsHistoryInRange history → length history ≤ most_in version
     → head_in (front_records version history ++ more) ≡ Ok (version, length history)
 first_again version history more known fit room = rw (head_again version (length history) known fit.some room) refl
 
-pub history_again : (version : ℕ) (history : List Process) → IsVersion version → IsHistoryInRange history → length history ≤ most_in version → history_of (front_records version history) ≡ Ok history
+pub history_again : (version : ℕ) (history : List Process) → IsCheckVersion version → IsHistoryInRange history → length history ≤ most_in version → history_of (front_records version history) ≡ Ok history
 unfolding history_of
 history_again version history known fit room =
     let records : List Record = front_records version history in

@@ -1,5 +1,5 @@
 -- A claim that is written is read again.
-use Rattle.std.proofs.Common.{cond, ◌≡◌, ◌≤◌, ◌<◌, ℕ, ◌+◌, ◌==◌, ◌&&◌, Bool, true, false, Option, Some, None, List, [], ◌∷◌, ◌++◌, length, Result, Ok, refl, sym, ap, ◌∙◌, arith, append_assoc, length-append}
+use Rattle.std.proofs.Common.{◌≡◌, ◌≤◌, ◌<◌, ℕ, ◌+◌, ◌==◌, Bool, true, false, Option, Some, None, List, [], ◌∷◌, ◌++◌, length, Result, Ok, refl, sym, ap, ◌∙◌, arith, append_assoc, length-append}
 use Rattle.std.specs.Prelude.{codes, map, nat_le, replicate}
 use Rattle.std.specs.List.{AllByRecursion, list_any}
 use Rattle.std.specs.Option.{is_some, option_map_or}
@@ -7,7 +7,6 @@ use Rattle.std.proofs.Math.ListN.{set}
 use Rattle.std.proofs.Math.Seq.{get_or-append_seam, set-append_seam}
 use Rattle.std.proofs.lemmas.List.{append-nil}
 use Rattle.line_names.specs.declared.certificates.Passed.{Passed}
-use Rattle.line_names.specs.declared.choices.Choice.{Choice}
 use Rattle.line_names.specs.declared.limits.TheConstants.{MOST_PROCESSES}
 use Rattle.line_fields.specs.declared.faults.Fault.{Fault}
 use Rattle.line_fields.specs.Records.{Record}
@@ -19,9 +18,9 @@ use Rattle.line_claims.specs.Entries.{bar_of, damage_of, end_of, entry_of, faile
 use Rattle.line_claims.specs.Events.{is_event}
 use Rattle.line_claims.specs.Parts.{Part, begins, many, is_named}
 use Rattle.line_claims.specs.Ranges.{AreMarks, IsBar, IsClaimInRange, IsEntryInRange}
-use Rattle.line_claims.specs.Records.{bar_record, bars_records, claim_records, damage_record, damages_records, end_record, failed_record, judged_records, line_record, pass_record, version_of}
-use Rattle.line_claims.specs.Versions.{earliest_version}
+use Rattle.line_claims.specs.Records.{bar_record, bars_records, claim_records, damage_record, damages_records, end_record, failed_record, judged_records, line_record, pass_record, full_replay_record, rest_records}
 use Rattle.line_claims.proofs.AgainLemmas.{one_again, part_to}
+use Rattle.line_claims.proofs.AnswerAgainLemmas.{all_replays_again, all_starts_again, and_false, rest_is_no_pass}
 use Rattle.line_claims.proofs.EntryAgainLemmas.{bar_again, damage_again, entry_again, failed_again, line_again}
 use Rattle.line_claims.proofs.ReadingLemmas.{first_more, many_end}
 
@@ -100,11 +99,7 @@ bars_from version n marks i records = many (is_bar version) (bar_of n) marks i r
 
 -- where there is a bar, the version knows it
 abbrev Knows : ℕ → List (Option ℕ) → Type 0
-Knows version bars = list_any is_some bars ≡ true → (version == 2) ≡ true
-
-two_if : (b : Bool) (later : ℕ) → b ≡ true → (cond b 2 later == 2) ≡ true
-two_if true later h = refl
-two_if false later h = cc
+Knows version bars = list_any is_some bars ≡ true → nat_le 2 version ≡ true
 
 -- the bars of processes are read one after another
 bars_again : (version n : ℕ) (damaged : List (List ℕ)) (done rest : List (Option ℕ)) (p i : ℕ) (more : List Record) → n ≤ MOST_PROCESSES → p ≡ length done → length done + length rest ≤ n
@@ -140,28 +135,24 @@ bars_again version n damaged done (Some check ∷ others) p i more few at room f
     (rest.0, named ∙ first ∙ moved ∙ rest.1 ∙ ap (λ (bars : List (Option ℕ)). bars_from version n (marks_of bars damaged) rest.0 more) (append_assoc done (Some check ∷ []) others))
 
 -- no bar is a mark of damage
-bars_end_damage : (p n : ℕ) (bars : List (Option ℕ)) (failed : List Bool) (line : List Choice) (entries : List Passed)
-    → begins (is_named (codes "damage")) (bars_records p bars ++ judged_records n failed line entries) ≡ false
-bars_end_damage p n [] failed line entries = refl
-bars_end_damage p n (None ∷ others) failed line entries = bars_end_damage (p + 1) n others failed line entries
-bars_end_damage p n (Some check ∷ others) failed line entries = refl
+bars_end_damage : (p n : ℕ) (bars : List (Option ℕ)) (failed : List Bool)
+    → (rest : List Record) → begins (is_named (codes "damage")) (bars_records p bars ++ (failed_record n failed ∷ rest)) ≡ false
+bars_end_damage p n [] failed rest = refl
+bars_end_damage p n (None ∷ others) failed rest = bars_end_damage (p + 1) n others failed rest
+bars_end_damage p n (Some check ∷ others) failed rest = refl
 
-and_false : (b : Bool) → (b && false) ≡ false
-and_false true = refl
-and_false false = refl
-
-pub claim_again : (claim : Claim) (i : ℕ) → IsClaimInRange claim → claim_from (version_of claim.marks) (length claim.marks.damaged) i (claim_records claim) ≡ Ok claim
+pub claim_again : (version : ℕ) (claim : Claim) (i : ℕ) → IsClaimInRange version claim → claim_from version (length claim.marks.damaged) i (claim_records claim) ≡ Ok claim
 unfolding claim_from
-claim_again claim i fit =
+claim_again version claim i fit =
     let n : ℕ = length claim.marks.damaged in
     let bars : List (Option ℕ) = claim.marks.bars in
     let damaged : List (List ℕ) = claim.marks.damaged in
-    let version : ℕ = version_of claim.marks in
     let room : 0 + length claim.marks.damaged ≤ n = omega arith in
-    let judged : List Record = judged_records n claim.failed claim.line claim.certificate in
+    let rest : List Record = rest_records claim.starts claim.replays in
+    let judged : List Record = judged_records n claim.failed claim.line claim.certificate claim.starts claim.replays in
     let barred : List Record = bars_records 0 bars ++ judged in
     let free : List (Option ℕ) = replicate (length bars) None in
-    let passes : List Record = map pass_record claim.certificate ++ end_record ∷ [] in
+    let passes : List Record = map pass_record claim.certificate ++ rest in
     let few = fit.few in
     let same : length bars ≡ n = fit.barred in
     let begun : no_marks n ≡ marks_of free (replicate n []) = ap (λ (k : ℕ). marks_of (replicate k None) (replicate n [])) (sym same) in
@@ -169,30 +160,34 @@ claim_again claim i fit =
     let damage : marks_from n (no_marks n) i (claim_records claim) ≡ Ok (part_to (marks_of free damaged) marked.0 barred)
     = ap (λ (marks : MarksView). marks_from n marks i (claim_records claim)) begun
     ∙ ap (marks_from n (marks_of free (replicate n [])) i) (append_assoc (damages_records 0 damaged) (bars_records 0 bars) judged)
-    ∙ marked.1 ∙ many_end (is_named (codes "damage")) (damage_of n) (marks_of free damaged) marked.0 barred (bars_end_damage 0 n bars claim.failed claim.line claim.certificate) in
+    ∙ marked.1 ∙ many_end (is_named (codes "damage")) (damage_of n) (marks_of free damaged) marked.0 barred (bars_end_damage 0 n bars claim.failed (line_record claim.line ∷ passes)) in
     let all : 0 + length bars ≤ n = omega (arith, same) in
-    let told = bars_again version n damaged [] bars 0 marked.0 judged few refl all fit.bars (λ some. two_if (list_any is_some bars) (earliest_version n) some) in
+    let told = bars_again version n damaged [] bars 0 marked.0 judged few refl all fit.bars fit.known in
     let marks : bars_from version n (marks_of free damaged) marked.0 barred ≡ Ok (part_to claim.marks told.0 judged)
-    = told.1 ∙ many_end (is_bar version) (bar_of n) claim.marks told.0 judged (and_false (version == 2)) in
+    = told.1 ∙ many_end (is_bar version) (bar_of n) claim.marks told.0 judged (and_false (nat_le 2 version)) in
     let failed = one_again (codes "failed") (failed_of n) told.0 (failed_record n claim.failed) (line_record claim.line ∷ passes) claim.failed refl (failed_again n claim.failed fit.few fit.whole fit.there) in
     let line = one_again (codes "line") (line_of version) (told.0 + 1) (line_record claim.line) passes claim.line refl (line_again version claim.line fit.some fit.short fit.choices) in
-    let listed = passes_again n [] claim.certificate (end_record ∷ []) ((told.0 + 1) + 1) fit.few fit.entries in
-    let entries : entries_from n [] ((told.0 + 1) + 1) passes ≡ Ok (part_to claim.certificate listed.0 (end_record ∷ []))
-    = listed.1 ∙ many_end (is_named (codes "pass")) (entry_of n) claim.certificate listed.0 (end_record ∷ []) refl in
-    let end = one_again (codes "end") end_of listed.0 end_record [] tt refl refl in
-    rw (damage, marks, failed, line, entries, end) refl
+    let listed = passes_again n [] claim.certificate rest ((told.0 + 1) + 1) fit.few fit.entries in
+    let entries : entries_from n [] ((told.0 + 1) + 1) passes ≡ Ok (part_to claim.certificate listed.0 rest)
+    = listed.1 ∙ many_end (is_named (codes "pass")) (entry_of n) claim.certificate listed.0 rest (rest_is_no_pass claim.starts claim.replays) in
+    let sent : List Record = map full_replay_record claim.replays ++ end_record ∷ [] in
+    let started = all_starts_again version n claim.starts listed.0 sent few fit.counted fit.starts in
+    let replayed = all_replays_again version n claim.replays started.0 few fit.later fit.replays in
+    let end = one_again (codes "end") end_of replayed.0 end_record [] tt refl refl in
+    rw (damage, marks, failed, line, entries, started.1, replayed.1, end) refl
 
-bars_begin : (p n : ℕ) (bars : List (Option ℕ)) (failed : List Bool) (line : List Choice) (entries : List Passed)
-    → begins is_event (bars_records p bars ++ judged_records n failed line entries) ≡ false
-bars_begin p n [] failed line entries = refl
-bars_begin p n (None ∷ others) failed line entries = bars_begin (p + 1) n others failed line entries
-bars_begin p n (Some check ∷ others) failed line entries = refl
+bars_begin : (p n : ℕ) (bars : List (Option ℕ)) (failed : List Bool) (rest : List Record)
+    → begins is_event (bars_records p bars ++ (failed_record n failed ∷ rest)) ≡ false
+bars_begin p n [] failed rest = refl
+bars_begin p n (None ∷ others) failed rest = bars_begin (p + 1) n others failed rest
+bars_begin p n (Some check ∷ others) failed rest = refl
 
-claim_begins : (p n : ℕ) (damaged : List (List ℕ)) (bars : List (Option ℕ)) (failed : List Bool) (line : List Choice) (entries : List Passed)
-    → begins is_event ((damages_records p damaged ++ bars_records 0 bars) ++ judged_records n failed line entries) ≡ false
-claim_begins p n [] bars failed line entries = bars_begin 0 n bars failed line entries
-claim_begins p n ([] ∷ others) bars failed line entries = claim_begins (p + 1) n others bars failed line entries
-claim_begins p n ((check ∷ checks) ∷ others) bars failed line entries = refl
+claim_begins : (p n : ℕ) (damaged : List (List ℕ)) (bars : List (Option ℕ)) (failed : List Bool) (rest : List Record)
+    → begins is_event ((damages_records p damaged ++ bars_records 0 bars) ++ (failed_record n failed ∷ rest)) ≡ false
+claim_begins p n [] bars failed rest = bars_begin 0 n bars failed rest
+claim_begins p n ([] ∷ others) bars failed rest = claim_begins (p + 1) n others bars failed rest
+claim_begins p n ((check ∷ checks) ∷ others) bars failed rest = refl
 
 pub claim_ends_front : (claim : Claim) → begins is_event (claim_records claim) ≡ false
-claim_ends_front claim = claim_begins 0 (length claim.marks.damaged) claim.marks.damaged claim.marks.bars claim.failed claim.line claim.certificate
+claim_ends_front claim =
+    claim_begins 0 (length claim.marks.damaged) claim.marks.damaged claim.marks.bars claim.failed (line_record claim.line ∷ (map pass_record claim.certificate ++ rest_records claim.starts claim.replays))

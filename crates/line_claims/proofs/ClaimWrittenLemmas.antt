@@ -1,29 +1,30 @@
 -- The records of a claim have plain fields, and the text of a history and a claim on it is read again.
 use Rattle.std.proofs.Common.{◌≡◌, ◌≤◌, ◌<◌, ℕ, ◌+◌, ◌^◌, true, Option, Some, None, List, [], ◌∷◌, ◌++◌, length, Ok, refl, sym, arith}
 use Rattle.std.specs.Prelude.{decimal, map}
-use Rattle.std.specs.List.{AllByRecursion, list_all, list_any}
-use Rattle.std.specs.Option.{is_some}
+use Rattle.std.specs.List.{AllByRecursion, list_all}
 use Rattle.std.proofs.lemmas.List.Folds.{list_all-append}
 use Rattle.line_names.specs.declared.certificates.Passed.{Passed}
 use Rattle.line_names.specs.declared.choices.Choice.{Choice}
 use Rattle.line_names.specs.declared.choices.Choice.TheVariants.{Check as AtCheck, Now}
 use Rattle.line_names.specs.declared.limits.TheConstants.{MOST_PROCESSES}
+use Rattle.line_check.specs.declared.answers.Replay.{Replay}
+use Rattle.line_check.specs.declared.answers.Start.{Start}
 use Rattle.line_fields.specs.Records.{Record}
 use Rattle.line_fields.specs.Texts.{is_plain_field, is_written, records_text}
-use Rattle.line_fields.proofs.PlainLemmas.{plain_decimal}
+use Rattle.line_fields.proofs.PlainLemmas.{plain_decimal, plain_hex}
 use Rattle.line_fields.proofs.ReadAgain.{written_is_input, written_is_read}
 use Rattle.line_tape.specs.History.{Process}
 use Rattle.line_claims.specs.declared.numbers.TheConstants.{MOST_NUMBER}
 use Rattle.line_claims.specs.Claims.{Claim}
-use Rattle.line_claims.specs.Ranges.{AreMarks, IsBar, IsChoice, IsClaimInRange, IsEntryInRange, IsHistoryInRange}
-use Rattle.line_claims.specs.Records.{bars_records, choice_text, claim_records, damage_record, damages_records, end_record, front_records, judged_records, marks_records, members, pass_record, version_of}
+use Rattle.line_claims.specs.Ranges.{AreMarks, IsBar, IsChoice, IsClaimInRange, IsEntryInRange, IsHistoryInRange, IsReplayInRange, IsStartInRange, IsStateInRange}
+use Rattle.line_claims.specs.Records.{bars_records, choice_text, claim_records, damage_record, damages_records, end_record, front_records, judged_records, marks_records, members, pass_record, full_replay_record, rest_records, starts_records, stored_text}
 use Rattle.line_claims.specs.Texts.{certificate_of, certificate_of_text, check_text_of, check_of_text}
-use Rattle.line_claims.specs.Versions.{IsVersion, most_in}
+use Rattle.line_claims.specs.Versions.{IsCheckVersion, most_in}
 use Rattle.line_claims.proofs.AgainLemmas.{first_again, front_again}
 use Rattle.line_claims.proofs.ClaimAgainLemmas.{claim_again, claim_ends_front}
 use Rattle.line_claims.proofs.EntryAgainLemmas.{members_below}
-use Rattle.line_claims.proofs.VersionLemmas.{version_has_room, version_is_known}
-use Rattle.line_claims.proofs.WrittenLemmas.{history_is_written}
+use Rattle.line_claims.proofs.VersionLemmas.{starts_few}
+use Rattle.line_claims.proofs.WrittenLemmas.{byte_at, history_is_written}
 use Rattle.line_tape.specs.declared.limits.TheConstants.{LAST_INCARNATION}
 
 marks_are_written : (p : ℕ) (before checks : List ℕ) → p < 2 ^ 64 → AreMarks before checks → list_all is_written (map (damage_record p) checks) ≡ true
@@ -72,44 +73,77 @@ entry_is_written n entry few fit =
     let d : entry.message.number < 2 ^ 64 = omega arith in
     rw (plain_decimal entry.at a, choice_is_plain entry.choice fit.choice, plain_decimal entry.message.from b, plain_decimal entry.message.inc c, plain_decimal entry.message.number d) refl
 
-entries_are_written : (n : ℕ) (entries : List Passed) → n ≤ MOST_PROCESSES → AllByRecursion (IsEntryInRange n) entries → list_all is_written (map pass_record entries ++ end_record ∷ []) ≡ true
+entries_are_written : (n : ℕ) (entries : List Passed) → n ≤ MOST_PROCESSES → AllByRecursion (IsEntryInRange n) entries → list_all is_written (map pass_record entries) ≡ true
 entries_are_written n [] few fit = refl
 entries_are_written n (entry ∷ others) few fit = rw (entry_is_written n entry few fit.0) (entries_are_written n others few fit.1)
 
-claim_is_written : (claim : Claim) → IsClaimInRange claim → list_all is_written (claim_records claim) ≡ true
-claim_is_written claim fit =
+state_is_plain : (state : Option (List ℕ)) → IsStateInRange state → is_plain_field (stored_text state) ≡ true
+state_is_plain None fit = refl
+state_is_plain (Some state) fit = plain_hex state (byte_at state fit.fit)
+
+starts_are_written : (p : ℕ) (starts : List Start) → p + length starts ≤ MOST_PROCESSES → AllByRecursion IsStartInRange starts → list_all is_written (starts_records p starts) ≡ true
+starts_are_written p [] room fit = refl
+starts_are_written p (start ∷ others) room fit =
+    let small : start.inc ≤ LAST_INCARNATION = fit.0.inc in
+    let a : p < 2 ^ 64 = omega arith in
+    let b : start.inc < 2 ^ 64 = omega arith in
+    rw (plain_decimal p a, plain_decimal start.inc b, state_is_plain start.state fit.0.state) (starts_are_written (p + 1) others (omega arith) fit.1)
+
+replay_is_written : (n : ℕ) (replay : Replay) → n ≤ MOST_PROCESSES → IsReplayInRange n replay → is_written (full_replay_record replay) ≡ true
+replay_is_written n replay few fit =
+    let from : replay.message.from < n = fit.from in
+    let small : replay.message.inc ≤ LAST_INCARNATION = fit.inc in
+    let wide : replay.message.number ≤ MOST_NUMBER = fit.number in
+    let to : replay.to < n = fit.to in
+    let place : replay.place ≤ MOST_NUMBER = fit.place in
+    let a : replay.message.from < 2 ^ 64 = omega arith in
+    let b : replay.message.inc < 2 ^ 64 = omega arith in
+    let c : replay.message.number < 2 ^ 64 = omega arith in
+    let d : replay.to < 2 ^ 64 = omega arith in
+    let e : replay.place < 2 ^ 64 = omega arith in
+    rw (plain_decimal replay.message.from a, plain_decimal replay.message.inc b, plain_decimal replay.message.number c, plain_decimal replay.to d, plain_decimal replay.place e, plain_hex replay.body (byte_at replay.body fit.body.fit)) refl
+
+replays_are_written : (n : ℕ) (replays : List Replay) → n ≤ MOST_PROCESSES → AllByRecursion (IsReplayInRange n) replays → list_all is_written (map full_replay_record replays ++ end_record ∷ []) ≡ true
+replays_are_written n [] few fit = refl
+replays_are_written n (replay ∷ others) few fit = rw (replay_is_written n replay few fit.0) (replays_are_written n others few fit.1)
+
+claim_is_written : (version : ℕ) (claim : Claim) → IsClaimInRange version claim → list_all is_written (claim_records claim) ≡ true
+claim_is_written version claim fit =
     let n : ℕ = length claim.marks.damaged in
     let few = fit.few in
     let room : 0 + length claim.marks.damaged ≤ MOST_PROCESSES = omega (arith, few) in
-    let judged : List Record = judged_records n claim.failed claim.line claim.certificate in
+    let judged : List Record = judged_records n claim.failed claim.line claim.certificate claim.starts claim.replays in
+    let rest : List Record = rest_records claim.starts claim.replays in
+    let sent : List Record = map full_replay_record claim.replays ++ end_record ∷ [] in
     let barred = fit.barred in
     let space : 0 + length claim.marks.bars ≤ MOST_PROCESSES = omega (arith, few, barred) in
     let marks : list_all is_written (marks_records claim.marks) ≡ true
     = rw (list_all-append is_written (damages_records 0 claim.marks.damaged) (bars_records 0 claim.marks.bars), damages_are_written 0 claim.marks.damaged room fit.marks) (bars_are_written 0 claim.marks.bars space fit.bars) in
     let failed = decimals_are_plain n (members n claim.failed) fit.few (members_below n claim.failed) in
     let line = choices_are_plain claim.line fit.choices in
-    let rest : list_all is_written judged ≡ true = rw (failed, line) (entries_are_written n claim.certificate fit.few fit.entries) in
-    rw (list_all-append is_written (marks_records claim.marks) judged, marks, rest) refl
+    let begun : 0 + length claim.starts ≤ MOST_PROCESSES = omega (arith, few, fit.counted, starts_few version n) in
+    let started = starts_are_written 0 claim.starts begun fit.starts in
+    let behind : list_all is_written rest ≡ true = rw (list_all-append is_written (starts_records 0 claim.starts) sent, started) (replays_are_written n claim.replays fit.few fit.replays) in
+    let passes : list_all is_written (map pass_record claim.certificate ++ rest) ≡ true = rw (list_all-append is_written (map pass_record claim.certificate) rest, entries_are_written n claim.certificate fit.few fit.entries) behind in
+    let all : list_all is_written judged ≡ true = rw (failed, line) passes in
+    rw (list_all-append is_written (marks_records claim.marks) judged, marks, all) refl
 
-pub claim_text_again : (claim : Claim) → IsClaimInRange claim → certificate_of_text (version_of claim.marks) (length claim.marks.damaged) (records_text (claim_records claim)) ≡ Ok claim
+pub claim_text_again : (version : ℕ) (claim : Claim) → IsClaimInRange version claim → certificate_of_text version (length claim.marks.damaged) (records_text (claim_records claim)) ≡ Ok claim
 unfolding certificate_of
-claim_text_again claim fit =
-    let written = claim_is_written claim fit in
-    rw (written_is_input (claim_records claim) written, written_is_read (claim_records claim) written) (claim_again claim 1 fit)
+claim_text_again version claim fit =
+    let written = claim_is_written version claim fit in
+    rw (written_is_input (claim_records claim) written, written_is_read (claim_records claim) written) (claim_again version claim 1 fit)
 
 -- a history and a claim on it are read again
-pub check_text_again : (history : List Process) (claim : Claim) → IsHistoryInRange history → IsClaimInRange claim → length claim.marks.damaged ≡ length history
-    → check_of_text (records_text (front_records (version_of claim.marks) history ++ claim_records claim)) ≡ Ok (record { history = history; claim = claim })
+pub check_text_again : (version : ℕ) (history : List Process) (claim : Claim) → IsCheckVersion version → length claim.marks.damaged ≤ most_in version → IsHistoryInRange history → IsClaimInRange version claim → length claim.marks.damaged ≡ length history
+    → check_of_text (records_text (front_records version history ++ claim_records claim)) ≡ Ok (record { history = history; claim = claim })
 unfolding check_text_of
-check_text_again history claim fit good same =
-    let version : ℕ = version_of claim.marks in
+check_text_again version history claim known wide fit good same =
     let n : ℕ = length claim.marks.damaged in
-    let known : IsVersion version = version_is_known (list_any is_some claim.marks.bars) n in
-    let wide : n ≤ most_in version = version_has_room (list_any is_some claim.marks.bars) n good.few in
     let room : length history ≤ most_in version = omega (arith, wide, same) in
     let records : List Record = front_records version history ++ claim_records claim in
-    let written : list_all is_written records ≡ true = rw (list_all-append is_written (front_records version history) (claim_records claim), history_is_written version history known fit, claim_is_written claim good) refl in
+    let written : list_all is_written records ≡ true = rw (list_all-append is_written (front_records version history) (claim_records claim), history_is_written version history known fit, claim_is_written version claim good) refl in
     let head = first_again version history (claim_records claim) known fit room in
     let front = front_again version history (claim_records claim) fit (claim_ends_front claim) in
-    let rest = claim_again claim front.0 good in
+    let rest = claim_again version claim front.0 good in
     rw (written_is_input records written, written_is_read records written, head, front.1, sym same, rest) refl

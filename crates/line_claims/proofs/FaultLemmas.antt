@@ -11,8 +11,10 @@ use Rattle.line_tape.specs.Views.{no_marks}
 use Rattle.line_claims.specs.declared.faults.TextFault.{TextFault}
 use Rattle.line_claims.specs.declared.faults.TextError.{TextError}
 use Rattle.line_claims.specs.declared.faults.TextError.TheVariants as errors
-use Rattle.line_claims.specs.Claims.{claim_from, is_bar, is_none}
-use Rattle.line_claims.specs.Entries.{bar_of, damage_of, end_of, entry_of, failed_of, line_of}
+use Rattle.line_check.specs.declared.answers.Start.{Start}
+use Rattle.line_claims.specs.Claims.{claim_from, is_bar, is_none, is_replay, starts_from}
+use Rattle.line_claims.specs.Entries.{bar_of, damage_of, end_of, entry_of, failed_of, line_of, replay_of, start_of}
+use Rattle.line_claims.specs.Versions.{starts_in}
 use Rattle.line_claims.specs.Events.{is_event}
 use Rattle.line_claims.specs.Histories.{event_at, front_of, head_in, head_of, tape_from, tape_of, tapes_from}
 use Rattle.line_claims.specs.Parts.{Part, begins, first, many, is_named, one}
@@ -96,6 +98,12 @@ front_of_faults : (n : ℕ) (records : List Record) → OnlyOfText (front_of n r
 unfolding front_of
 front_of_faults n records = tapes_faults 0 n (replicate n fresh) 2 (drop 1 records)
 
+starts_faults : (n k : ℕ) (starts : List Start) (i : ℕ) (records : List Record) → OnlyOfText (starts_from n k starts i records)
+unfolding starts_from
+starts_faults n zero starts i records = tt
+starts_faults n (suc others) starts i records =
+    both_faults (one (codes "start") (start_of n starts) i records) _ (one_faults (codes "start") (start_of n starts) i records) (λ start. starts_faults n others start.value start.number start.left)
+
 claim_faults : (version n i : ℕ) (records : List Record) → OnlyOfText (claim_from version n i records)
 unfolding claim_from
 claim_faults version n i records =
@@ -104,8 +112,10 @@ claim_faults version n i records =
     (λ marks. both_faults (one (codes "failed") (failed_of n) marks.number marks.left) _ (one_faults (codes "failed") (failed_of n) marks.number marks.left)
     (λ failed. both_faults (one (codes "line") (line_of version) failed.number failed.left) _ (one_faults (codes "line") (line_of version) failed.number failed.left)
     (λ line. both_faults (many (is_named (codes "pass")) (entry_of n) [] line.number line.left) _ (many_faults (is_named (codes "pass")) (entry_of n) [] line.number line.left)
-    (λ entries. both_faults (one (codes "end") end_of entries.number entries.left) _ (one_faults (codes "end") end_of entries.number entries.left)
-    (λ end. both_faults (at_record end.number (want (is_none end.left) faults.BadRecord)) _ (numbered_faults end.number (want (is_none end.left) faults.BadRecord)) (λ last. tt)))))))
+    (λ entries. both_faults (starts_from n (starts_in version n) [] entries.number entries.left) _ (starts_faults n (starts_in version n) [] entries.number entries.left)
+    (λ starts. both_faults (many (is_replay version) (replay_of n) [] starts.number starts.left) _ (many_faults (is_replay version) (replay_of n) [] starts.number starts.left)
+    (λ replays. both_faults (one (codes "end") end_of replays.number replays.left) _ (one_faults (codes "end") end_of replays.number replays.left)
+    (λ end. both_faults (at_record end.number (want (is_none end.left) faults.BadRecord)) _ (numbered_faults end.number (want (is_none end.left) faults.BadRecord)) (λ last. tt)))))))))
 
 history_faults : (records : List Record) → OnlyOfText (history_of records)
 unfolding history_of

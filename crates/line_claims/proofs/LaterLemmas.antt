@@ -14,16 +14,16 @@ use Rattle.line_tape.specs.History.{Process}
 use Rattle.line_tape.specs.Views.{MarksView, no_marks}
 use Rattle.line_claims.specs.declared.faults.TextFault.{TextFault}
 use Rattle.line_claims.specs.declared.numbers.TheConstants.{MOST_NUMBER}
-use Rattle.line_claims.specs.declared.versions.TheConstants.{LAST_VERSION}
-use Rattle.line_claims.specs.Claims.{Claim, claim_from, is_bar, is_none}
-use Rattle.line_claims.specs.Entries.{bar_of, damage_of, end_of, entry_of, failed_of, line_of}
+use Rattle.line_claims.specs.declared.versions.TheConstants.{LAST_CHECK_VERSION}
+use Rattle.line_claims.specs.Claims.{Claim, claim_from, is_bar, is_none, is_replay, starts_from}
+use Rattle.line_claims.specs.Entries.{bar_of, damage_of, end_of, entry_of, failed_of, line_of, replay_of}
 use Rattle.line_claims.specs.Histories.{front_of, head_in, head_of}
 use Rattle.line_claims.specs.Numbers.{choices, plain}
 use Rattle.line_claims.specs.Parts.{Part, begins, first, many, is_named, one}
 use Rattle.line_claims.specs.Reads.{at_record}
 use Rattle.line_claims.specs.Records.{in_version}
 use Rattle.line_claims.specs.Texts.{Check, certificate_of, certificate_of_text, check_text_of, check_of_text, history_of, history_of_text, records_in}
-use Rattle.line_claims.specs.Versions.{IsVersion, most_in}
+use Rattle.line_claims.specs.Versions.{IsCheckVersion, most_in, starts_in}
 use Rattle.line_claims.proofs.AgainLemmas.{part_to}
 use Rattle.line_claims.proofs.SpellLemmas.{plain_again}
 use Rattle.line_claims.proofs.VersionLemmas.{more_room}
@@ -75,16 +75,26 @@ line_later r line h =
     then_later (want before faults.BadRecord) (want now faults.BadRecord) (λ it. choices (drop 1 r)) (λ it. choices (drop 1 r)) line (want_later before now faults.BadRecord long) (λ it k. k) h
 
 -- the claim with these marks, failed processes and line, by what stands behind them
-abbrev behind_line : ℕ → MarksView → List Bool → Part (List Choice) → Result Claim TextFault
-behind_line n marks failed line = do
+abbrev behind_line : ℕ → ℕ → MarksView → List Bool → Part (List Choice) → Result Claim TextFault
+behind_line version n marks failed line = do
   entries ← many (is_named (codes "pass")) (entry_of n) [] line.number line.left
-  end ← one (codes "end") end_of entries.number entries.left
+  starts ← starts_from n (starts_in version n) [] entries.number entries.left
+  replays ← many (is_replay version) (replay_of n) [] starts.number starts.left
+  end ← one (codes "end") end_of replays.number replays.left
   last ← at_record end.number (want (is_none end.left) faults.BadRecord)
-  Ok (record { marks = marks; failed = failed; line = line.value; certificate = entries.value })
+  Ok
+      (record {
+        marks = marks;
+        failed = failed;
+        line = line.value;
+        certificate = entries.value;
+        starts = starts.value;
+        replays = replays.value;
+      })
 
 -- with these marks and failed processes
 abbrev behind_failed : ℕ → ℕ → MarksView → Part (List Bool) → Result Claim TextFault
-behind_failed version n marks failed = one (codes "line") (line_of version) failed.number failed.left >>= behind_line n marks failed.value
+behind_failed version n marks failed = one (codes "line") (line_of version) failed.number failed.left >>= behind_line version n marks failed.value
 
 -- with these marks
 abbrev behind : ℕ → ℕ → Part MarksView → Result Claim TextFault
@@ -93,7 +103,7 @@ behind version n marks = one (codes "failed") (failed_of n) marks.number marks.l
 same_failed : (n : ℕ) (marks : MarksView) (claim : Claim) (failed : Part (List Bool)) → behind_failed 1 n marks failed ≡ Ok claim → behind_failed 2 n marks failed ≡ Ok claim
 same_failed n marks claim failed h =
     let line : ℕ → Result (Part (List Choice)) TextFault = λ version. one (codes "line") (line_of version) failed.number failed.left in
-    then_later (line 1) (line 2) (behind_line n marks failed.value) (behind_line n marks failed.value) claim (one_later (codes "line") (line_of 1) (line_of 2) failed.number failed.left line_later) (λ x k. k) h
+    then_later (line 1) (line 2) (behind_line 1 n marks failed.value) (behind_line 2 n marks failed.value) claim (one_later (codes "line") (line_of 1) (line_of 2) failed.number failed.left line_later) (λ x k. k) h
 
 same_rest : (n : ℕ) (marks : Part MarksView) (claim : Claim) → behind 1 n marks ≡ Ok claim → behind 2 n marks ≡ Ok claim
 same_rest n marks claim h =
@@ -143,13 +153,13 @@ later_reads_the_same n text claim h =
 abbrev counted : ℕ → ℕ → Result (ℕ × ℕ) Fault
 counted version n = want (nat_le 1 n && nat_le n (most_in version)) faults.BadCount >>= λ within. Ok (version, n)
 
-head_is : (version : ℕ) (number : List ℕ) → IsVersion version → head_of (codes "history" ∷ decimal version ∷ number ∷ []) ≡ (plain number >>= counted version)
+head_is : (version : ℕ) (number : List ℕ) → IsCheckVersion version → head_of (codes "history" ∷ decimal version ∷ number ∷ []) ≡ (plain number >>= counted version)
 unfolding head_of two
 head_is version number known =
     let low : 1 ≤ version = known.0 in
-    let high : version ≤ LAST_VERSION = known.1 in
+    let high : version ≤ LAST_CHECK_VERSION = known.1 in
     let wide : version ≤ MOST_NUMBER = omega arith in
-    rw (plain_again version wide, le-leb 1 version low, le-leb version LAST_VERSION high) refl
+    rw (plain_again version wide, le-leb 1 version low, le-leb version LAST_CHECK_VERSION high) refl
 
 -- what it is in version 1 it is in version 2
 count_later : (n : ℕ) (b : Bool) (x : ℕ × ℕ) → (nat_le 1 n && nat_le n (most_in 1)) ≡ b → (want b faults.BadCount >>= λ within. Ok (1, n)) ≡ Ok x → (x.0 ≡ 1) × (counted 2 n ≡ Ok (2, x.1))

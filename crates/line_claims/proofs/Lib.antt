@@ -1,4 +1,5 @@
 pub mod AgainLemmas
+pub mod AnswerAgainLemmas
 pub mod ApartLemmas
 pub mod ClaimAgainLemmas
 pub mod ClaimWrittenLemmas
@@ -12,5 +13,6 @@ pub mod PlaceLemmas
 pub mod ReadingLemmas
 pub mod SpellLemmas
 pub mod VersionLemmas
+pub mod WalkLemmas
 pub mod WriteLemmas
 pub mod WrittenLemmas

@@ -1,7 +1,9 @@
 -- The parts of a text, taken record by record.
-use Rattle.std.proofs.Common.{◌≡◌, ◌<◌, ◌≤◌, ℕ, zero, suc, ◌+◌, ◌-◌, Bool, true, false, List, [], ◌∷◌, Result, Ok, Err, ◌⊎◌, inl, inr, refl, sym, subst, ap, ◌∙◌, arith}
+use Rattle.std.proofs.Common.{◌≡◌, ◌<◌, ◌≤◌, ℕ, zero, suc, ◌+◌, ◌-◌, Bool, true, false, List, [], ◌∷◌, length, Result, Ok, Err, ◌⊎◌, inl, inr, refl, sym, subst, ap, ◌∙◌, arith}
 use Rattle.std.specs.Prelude.{◌++◌, codes}
+use Rattle.std.proofs.lemmas.Bool.{cases_lt}
 use Rattle.std.proofs.lemmas.List.{append-nil}
+use Rattle.line_check.specs.declared.answers.Start.{Start}
 use Rattle.line_fields.specs.declared.faults.Fault.{Fault}
 use Rattle.line_fields.specs.declared.faults.Fault.TheVariants as faults
 use Rattle.line_fields.specs.declared.faults.ReadError.{ReadError}
@@ -14,12 +16,14 @@ use Rattle.line_claims.specs.declared.claims.ClaimStage.TheVariants as stages
 use Rattle.line_claims.specs.declared.faults.TextError.{TextError}
 use Rattle.line_claims.specs.declared.faults.TextError.TheVariants as text_errors
 use Rattle.line_claims.specs.declared.faults.TextFault.{TextFault}
-use Rattle.line_claims.specs.Claims.{Claim}
+use Rattle.line_claims.specs.Claims.{Claim, starts_from}
+use Rattle.line_claims.specs.Entries.{start_of}
 use Rattle.line_claims.specs.Events.{is_event}
 use Rattle.line_claims.specs.Histories.{event_at, tape_from, tape_of, tapes_from}
 use Rattle.line_claims.specs.Parts.{Part, begins, is_named, many, one}
 use Rattle.line_claims.specs.Reads.{FailsText, error_at, fault_of_record}
-use Rattle.line_claims.specs.Stages.{Goes, claim_left, open_tape, tapes_left, whole_front}
+use Rattle.line_claims.specs.Stages.{Goes, claim_left, open_tape, replays_left, starts_left, starts_to_come, tapes_left, whole_front}
+use Rattle.line_claims.specs.Versions.{starts_in}
 
 pub first_more : {A : Type 0} (is : Record → Bool) (read : A → Record → Result A Fault) (before more : A) (i : ℕ) (r : Record) (rest : List Record)
     → is r ≡ true → read before r ≡ Ok more → many is read before i (r ∷ rest) ≡ many is read more (i + 1) rest
@@ -96,14 +100,89 @@ pub goes_by : {A B : Type 0} (result : Result B TextError) (old mid : List Recor
 goes_by (Ok x) old mid new r same h = λ rest. same rest ∙ h rest
 goes_by {A} (Err e) old mid new r same h = λ rest. subst (λ (read : Result A TextFault). FailsText e read) (sym (same rest)) (h rest)
 
+-- ---- where the processes go on
+
+next_of : {A B C : Type 0} (read : Result A TextFault) (more : A → Result B TextFault) (next : B → Result C TextFault) → ((read >>= more) >>= next) ≡ (read >>= λ x. (more x >>= next))
+next_of (Ok x) more next = refl
+next_of (Err fault) more next = refl
+
+pub starts_next : (n others : ℕ) (starts : List Start) (i : ℕ) (left : List Record)
+    → starts_from n (suc others) starts i left ≡ (one (codes "start") (start_of n starts) i left >>= λ start. starts_from n others start.value start.number start.left)
+unfolding starts_from
+starts_next n others starts i left = refl
+
+-- of none it is to come
+starts_end : {B : Type 0} (n k : ℕ) (starts : List Start) (i : ℕ) (left : List Record) (next : Part (List Start) → Result B TextFault) → k ≡ 0
+    → (starts_from n k starts i left >>= next) ≡ next (record { value = starts; number = i; left = left })
+unfolding starts_from
+starts_end n k starts i left next none = ap (λ (m : ℕ). starts_from n m starts i left >>= next) none
+
+-- of one more it is to come
+starts_first : {B : Type 0} (n k others : ℕ) (starts : List Start) (i : ℕ) (left : List Record) (next : Part (List Start) → Result B TextFault) → k ≡ suc others
+    → (starts_from n k starts i left >>= next) ≡ (one (codes "start") (start_of n starts) i left >>= λ start. (starts_from n others start.value start.number start.left >>= next))
+starts_first n k others starts i left next more =
+    ap (λ (m : ℕ). starts_from n m starts i left >>= next) more
+    ∙ ap (λ (read : Result (Part (List Start)) TextFault). read >>= next) (starts_next n others starts i left)
+    ∙ next_of (one (codes "start") (start_of n starts) i left) (λ start. starts_from n others start.value start.number start.left) next
+
+-- how many that are
+to_come : (count : ℕ) (starts : List Start) → starts_to_come count starts ≡ count - length starts
+to_come count [] = omega arith
+to_come count (start ∷ others) = refl
+
+-- that of all was taken
+pub starts_taken : (version n : ℕ) (claim : Claim) (i : ℕ) (left : List Record) → starts_in version n ≤ length claim.starts → starts_left version n claim i left ≡ replays_left version n claim i left
+starts_taken version n claim i left all =
+    starts_end n (starts_to_come (starts_in version n) claim.starts) claim.starts i left _ (to_come (starts_in version n) claim.starts ∙ omega (arith, all))
+
+-- the next is another record
+pub start_missing : (version n : ℕ) (claim : Claim) (i : ℕ) (r : Record) (rest : List Record) → length claim.starts < starts_in version n → is_named (codes "start") r ≡ false
+    → starts_left version n claim i (r ∷ rest) ≡ Err (fault_of_record i faults.BadRecord)
+start_missing version n claim i r rest more other =
+    let one_more : starts_to_come (starts_in version n) claim.starts ≡ suc (starts_in version n - (length claim.starts + 1)) = to_come (starts_in version n) claim.starts ∙ omega (arith, more) in
+    starts_first n (starts_to_come (starts_in version n) claim.starts) _ claim.starts i (r ∷ rest) _ one_more ∙ one_missing (codes "start") (start_of n claim.starts) i r rest _ other
+
+-- it has a fault
+pub start_fault : (version n : ℕ) (claim : Claim) (i : ℕ) (r : Record) (rest : List Record) (e : ReadError) → length claim.starts < starts_in version n → is_named (codes "start") r ≡ true
+    → Fails e (start_of n claim.starts r) → FailsText (error_at i e) (starts_left version n claim i (r ∷ rest))
+start_fault version n claim i r rest errors.OutOfMemory more it h = tt
+start_fault version n claim i r rest (errors.Fault f) more it h =
+    let one_more : starts_to_come (starts_in version n) claim.starts ≡ suc (starts_in version n - (length claim.starts + 1)) = to_come (starts_in version n) claim.starts ∙ omega (arith, more) in
+    starts_first n (starts_to_come (starts_in version n) claim.starts) _ claim.starts i (r ∷ rest) _ one_more ∙ one_refused (codes "start") (start_of n claim.starts) i r rest f _ it h
+
+-- it was read
+pub start_read : (version n : ℕ) (claim : Claim) (more : List Start) (i : ℕ) (r : Record) (rest : List Record) → length claim.starts < starts_in version n → is_named (codes "start") r ≡ true
+    → start_of n claim.starts r ≡ Ok more → length more ≡ length claim.starts + 1 → starts_left version n claim i (r ∷ rest) ≡ starts_left version n (record claim { starts = more }) (i + 1) rest
+start_read version n claim more i r rest further it h longer =
+    let others : ℕ = starts_in version n - (length claim.starts + 1) in
+    let one_more : starts_to_come (starts_in version n) claim.starts ≡ suc others = to_come (starts_in version n) claim.starts ∙ omega (arith, further) in
+    let left : starts_to_come (starts_in version n) more ≡ others = to_come (starts_in version n) more ∙ omega (arith, longer) in
+    starts_first n (starts_to_come (starts_in version n) claim.starts) others claim.starts i (r ∷ rest) _ one_more
+    ∙ one_read (codes "start") (start_of n claim.starts) more i r rest _ it h
+    ∙ ap (λ (k : ℕ). starts_from n k more (i + 1) rest >>= λ starts. replays_left version n (record claim { starts = starts.value }) starts.number starts.left) (sym left)
+
 -- ---- a claim that ends too soon
+
+replays_open : (version n : ℕ) (claim : Claim) (i : ℕ) → replays_left version n claim i [] ≡ Err (fault_of_record i faults.BadRecord)
+unfolding many one
+replays_open version n claim i = refl
+
+starts_open : (version n : ℕ) (claim : Claim) (i : ℕ) → starts_left version n claim i [] ≡ Err (fault_of_record i faults.BadRecord)
+starts_open version n claim i = elim (cases_lt (length claim.starts) (starts_in version n)) [
+  | inl more ↦
+      let one_more : starts_to_come (starts_in version n) claim.starts ≡ suc (starts_in version n - (length claim.starts + 1)) = to_come (starts_in version n) claim.starts ∙ omega (arith, more) in
+      starts_first n (starts_to_come (starts_in version n) claim.starts) _ claim.starts i [] _ one_more ∙ one_none (codes "start") (start_of n claim.starts) i _
+  | inr all ↦ starts_taken version n claim i [] all ∙ replays_open version n claim i
+]
 
 pub claim_open : (stage : ClaimStage) (version n : ℕ) (claim : Claim) (i : ℕ) → (stage ≡ stages.Nothing → ⊥) → claim_left stage version n claim i [] ≡ Err (fault_of_record i faults.BadRecord)
 unfolding many one
 claim_open stages.Damage version n claim i other = refl
 claim_open stages.Bars version n claim i other = refl
 claim_open stages.Line version n claim i other = refl
-claim_open stages.Entries version n claim i other = refl
+claim_open stages.Entries version n claim i other = starts_open version n claim i
+claim_open stages.Starts version n claim i other = starts_open version n claim i
+claim_open stages.Replays version n claim i other = refl
 claim_open stages.Nothing version n claim i other = absurd (other refl)
 
 -- ---- the first record of a text

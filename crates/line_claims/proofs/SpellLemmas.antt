@@ -12,14 +12,14 @@ use Rattle.line_tape.specs.declared.events.Event.TheVariants.{Send, Recv, Check,
 use Rattle.line_tape.specs.declared.limits.TheConstants.{LAST_INCARNATION, MOST_EVENTS, MOST_STATE, LAST_ROUND}
 use Rattle.line_fields.specs.Shapes.{two, three}
 use Rattle.line_tape.specs.History.{Process, tape_at, with_event, with_incarnation}
-use Rattle.line_claims.specs.declared.versions.TheConstants.{LAST_VERSION}
+use Rattle.line_claims.specs.declared.versions.TheConstants.{LAST_CHECK_VERSION}
 use Rattle.line_claims.specs.declared.numbers.TheConstants.{MOST_NUMBER}
 use Rattle.line_claims.specs.Events.{send_event_of, recv_event_of, check_event_of, mark_event_of, is_event}
 use Rattle.line_claims.specs.Histories.{event_at, head_of, tape_of}
 use Rattle.line_claims.specs.Numbers.{plain, incarnation, round, round_or_none}
 use Rattle.line_claims.specs.Ranges.{AreBytes, IsEventInRange, IsRoundNumber}
 use Rattle.line_claims.specs.Records.{event_record, history_record, number_text, tape_record}
-use Rattle.line_claims.specs.Versions.{IsVersion, most_in}
+use Rattle.line_claims.specs.Versions.{IsCheckVersion, most_in}
 use Rattle.line_claims.proofs.VersionLemmas.{most_in_few}
 
 pub plain_again : (n : ℕ) → n ≤ MOST_NUMBER → plain (decimal n) ≡ Ok n
@@ -45,15 +45,15 @@ round_or_none_again (Some r) h =
     let high : r ≤ LAST_ROUND = h.1 in
     rw (not_word r (codes "-") (omega arith) refl, round_again r low high) refl
 
-pub head_again : (version n : ℕ) → IsVersion version → 1 ≤ n → n ≤ most_in version → head_of (history_record version n) ≡ Ok (version, n)
+pub head_again : (version n : ℕ) → IsCheckVersion version → 1 ≤ n → n ≤ most_in version → head_of (history_record version n) ≡ Ok (version, n)
 unfolding head_of two
 head_again version n known low high =
     let first : 1 ≤ version = known.0 in
-    let last : version ≤ LAST_VERSION = known.1 in
+    let last : version ≤ LAST_CHECK_VERSION = known.1 in
     let wide : version ≤ MOST_NUMBER = omega arith in
     let few = most_in_few version in
     let small : n ≤ MOST_NUMBER = omega (arith, high, few) in
-    rw (plain_again version wide, plain_again n small, le-leb 1 version first, le-leb version LAST_VERSION last, le-leb 1 n low, le-leb n (most_in version) high) refl
+    rw (plain_again version wide, plain_again n small, le-leb 1 version first, le-leb version LAST_CHECK_VERSION last, le-leb 1 n low, le-leb n (most_in version) high) refl
 
 send_again : (n to inc : ℕ) (body : List ℕ) → n ≤ MOST_PROCESSES → to < n → inc ≤ LAST_INCARNATION → AreBytes MOST_BODY body → send_event_of n (event_record (Send to inc body)) ≡ Ok (Send to inc body)
 unfolding send_event_of three

@@ -4,7 +4,7 @@ use Rattle.std.specs.Prelude.{nat_le}
 use Rattle.std.proofs.lemmas.Bool.{leb-true}
 use Rattle.line_names.specs.declared.limits.TheConstants.{MOST_PROCESSES}
 use Rattle.line_claims.specs.declared.versions.TheConstants.{MOST_IN_FIRST_VERSION}
-use Rattle.line_claims.specs.Versions.{IsVersion, earliest_version, most_in}
+use Rattle.line_claims.specs.Versions.{IsCheckVersion, IsVersion, earliest_version, most_in, starts_in}
 
 -- never more than there may be
 pub most_in_few : (version : ℕ) → most_in version ≤ MOST_PROCESSES
@@ -21,6 +21,14 @@ earliest_is_known n = elim (nat_le n MOST_IN_FIRST_VERSION) as (λ (b : Bool). I
   | false ↦ (omega arith, omega arith)
 ]
 
+-- and a version of check texts
+pub earliest_is_checked : (n : ℕ) → IsCheckVersion (earliest_version n)
+unfolding earliest_version
+earliest_is_checked n = elim (nat_le n MOST_IN_FIRST_VERSION) as (λ (b : Bool). IsCheckVersion (cond b 1 2)) [
+  | true ↦ (omega arith, omega arith)
+  | false ↦ (omega arith, omega arith)
+]
+
 -- the earliest version has room for so many processes
 pub earliest_has_room : (n : ℕ) → n ≤ MOST_PROCESSES → n ≤ most_in (earliest_version n)
 unfolding earliest_version most_in
@@ -30,9 +38,9 @@ earliest_has_room n few = elim (nat_le n MOST_IN_FIRST_VERSION) as (λ (b : Bool
 ] refl
 
 -- so has the version of a text that may need version 2 for something else
-pub version_is_known : (b : Bool) (n : ℕ) → IsVersion (cond b 2 (earliest_version n))
+pub version_is_known : (b : Bool) (n : ℕ) → IsCheckVersion (cond b 2 (earliest_version n))
 version_is_known true n = (omega arith, omega arith)
-version_is_known false n = earliest_is_known n
+version_is_known false n = earliest_is_checked n
 
 pub version_has_room : (b : Bool) (n : ℕ) → n ≤ MOST_PROCESSES → n ≤ most_in (cond b 2 (earliest_version n))
 unfolding most_in
@@ -46,3 +54,7 @@ more_room = omega arith
 
 pub most_in_later : (n : ℕ) → n ≤ most_in 1 → n ≤ most_in 2
 most_in_later n few = omega (arith, few, more_room)
+
+-- a claim says of no more processes than there are where they go on
+pub starts_few : (version n : ℕ) → starts_in version n ≤ n
+starts_few version n = elim (version == 3) as (λ (b : Bool). cond b n 0 ≤ n) [ true ↦ omega arith | false ↦ omega arith ]

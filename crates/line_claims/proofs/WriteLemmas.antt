@@ -13,7 +13,7 @@ use Rattle.line_names.specs.declared.choices.Choice.{Choice}
 use Rattle.line_names.specs.Sets.{is_member}
 use Rattle.line_tape.specs.History.{Process}
 use Rattle.line_claims.specs.Claims.{Claim}
-use Rattle.line_claims.specs.Records.{check_records, choice_text, end_record, failed_record, front_records, judged_records, line_record, marks_records, members, pass_record, version_of}
+use Rattle.line_claims.specs.Records.{check_records_in, choice_text, end_record, failed_record, front_records, judged_records, line_record, marks_records, members, pass_record, full_replay_record, rest_records, starts_records}
 
 -- a comma and the number of each member of a set behind the first i of n, and the end of the record
 abbrev pub members_behind : List Bool → ℕ → ℕ → List ℕ
@@ -85,21 +85,27 @@ pub out_last : {A : Type 0} {r : Result A DeviceFault} {a b c : Option (List ℕ
 out_last {A} {r} {a} {b} {c} {f} {g} {h} {held} {now} {later} {total} {left} part same before own =
     outputs_on held before.done part total (before.parts ∙ ap (λ (t : List ℕ). before.done ++ t) same) before.out own
 
-pub front_first : (history : List Process) (claim : Claim) → records_text (check_records history claim)
-    ≡ records_text (front_records (version_of claim.marks) history) ++ records_text (marks_records claim.marks ++ judged_records (length history) claim.failed claim.line claim.certificate)
-front_first history claim = both_texts (front_records (version_of claim.marks) history) (marks_records claim.marks ++ judged_records (length history) claim.failed claim.line claim.certificate)
+pub front_first : (version : ℕ) (history : List Process) (claim : Claim) → records_text (check_records_in version history claim)
+    ≡ records_text (front_records version history) ++ records_text (marks_records claim.marks ++ judged_records (length history) claim.failed claim.line claim.certificate claim.starts claim.replays)
+front_first version history claim = both_texts (front_records version history) (marks_records claim.marks ++ judged_records (length history) claim.failed claim.line claim.certificate claim.starts claim.replays)
 
-pub marks_next : (n : ℕ) (claim : Claim) → records_text (marks_records claim.marks ++ judged_records n claim.failed claim.line claim.certificate)
-    ≡ records_text (marks_records claim.marks) ++ records_text (judged_records n claim.failed claim.line claim.certificate)
-marks_next n claim = both_texts (marks_records claim.marks) (judged_records n claim.failed claim.line claim.certificate)
+pub marks_next : (n : ℕ) (claim : Claim) → records_text (marks_records claim.marks ++ judged_records n claim.failed claim.line claim.certificate claim.starts claim.replays)
+    ≡ records_text (marks_records claim.marks) ++ records_text (judged_records n claim.failed claim.line claim.certificate claim.starts claim.replays)
+marks_next n claim = both_texts (marks_records claim.marks) (judged_records n claim.failed claim.line claim.certificate claim.starts claim.replays)
 
-pub failed_next : (n : ℕ) (claim : Claim) → records_text (judged_records n claim.failed claim.line claim.certificate)
-    ≡ record_text (failed_record n claim.failed) ++ records_text (line_record claim.line ∷ (map pass_record claim.certificate ++ end_record ∷ []))
+pub failed_next : (n : ℕ) (claim : Claim) → records_text (judged_records n claim.failed claim.line claim.certificate claim.starts claim.replays)
+    ≡ record_text (failed_record n claim.failed) ++ records_text (line_record claim.line ∷ (map pass_record claim.certificate ++ rest_records claim.starts claim.replays))
 failed_next n claim = refl
 
-pub line_next : (claim : Claim) → records_text (line_record claim.line ∷ (map pass_record claim.certificate ++ end_record ∷ []))
-    ≡ record_text (line_record claim.line) ++ records_text (map pass_record claim.certificate ++ end_record ∷ [])
+pub line_next : (claim : Claim) → records_text (line_record claim.line ∷ (map pass_record claim.certificate ++ rest_records claim.starts claim.replays))
+    ≡ record_text (line_record claim.line) ++ records_text (map pass_record claim.certificate ++ rest_records claim.starts claim.replays)
 line_next claim = refl
 
-pub passes_next : (claim : Claim) → records_text (map pass_record claim.certificate ++ end_record ∷ []) ≡ records_text (map pass_record claim.certificate) ++ records_text (end_record ∷ [])
-passes_next claim = both_texts (map pass_record claim.certificate) (end_record ∷ [])
+pub passes_next : (claim : Claim) → records_text (map pass_record claim.certificate ++ rest_records claim.starts claim.replays) ≡ records_text (map pass_record claim.certificate) ++ records_text (rest_records claim.starts claim.replays)
+passes_next claim = both_texts (map pass_record claim.certificate) (rest_records claim.starts claim.replays)
+
+pub starts_next : (claim : Claim) → records_text (rest_records claim.starts claim.replays) ≡ records_text (starts_records 0 claim.starts) ++ records_text (map full_replay_record claim.replays ++ end_record ∷ [])
+starts_next claim = both_texts (starts_records 0 claim.starts) (map full_replay_record claim.replays ++ end_record ∷ [])
+
+pub replays_next : (claim : Claim) → records_text (map full_replay_record claim.replays ++ end_record ∷ []) ≡ records_text (map full_replay_record claim.replays) ++ records_text (end_record ∷ [])
+replays_next claim = both_texts (map full_replay_record claim.replays) (end_record ∷ [])

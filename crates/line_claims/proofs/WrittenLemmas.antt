@@ -10,11 +10,11 @@ use Rattle.line_fields.proofs.ReadAgain.{written_is_input, written_is_read}
 use Rattle.line_tape.specs.declared.events.Event.{Event}
 use Rattle.line_tape.specs.declared.events.Event.TheVariants.{Send, Recv, Check, Mark}
 use Rattle.line_tape.specs.History.{Process}
-use Rattle.line_claims.specs.declared.versions.TheConstants.{LAST_VERSION}
+use Rattle.line_claims.specs.declared.versions.TheConstants.{LAST_CHECK_VERSION}
 use Rattle.line_claims.specs.Ranges.{FitsMemory, FitsProcess, FitsWords, IsHistoryInRange}
 use Rattle.line_claims.specs.Records.{event_record, front_records, tape_records, tapes_records}
 use Rattle.line_claims.specs.Texts.{history_of_text}
-use Rattle.line_claims.specs.Versions.{IsVersion, most_in}
+use Rattle.line_claims.specs.Versions.{IsCheckVersion, most_in}
 use Rattle.line_claims.proofs.AgainLemmas.{history_again}
 use Rattle.line_claims.proofs.MemoryLemmas.{history_fits, records_apart}
 
@@ -62,28 +62,28 @@ tapes_are_written p (process ∷ others) room fit =
     let more = tapes_are_written (p + 1) others (omega arith) fit.1 in
     rw (list_all-append is_written (tape_records p process) (tapes_records (p + 1) others), one, more) refl
 
-memory_is_written : (version : ℕ) (history : List Process) → IsVersion version → FitsMemory history → list_all is_written (front_records version history) ≡ true
+memory_is_written : (version : ℕ) (history : List Process) → IsCheckVersion version → FitsMemory history → list_all is_written (front_records version history) ≡ true
 memory_is_written version history known fit =
     let few = fit.few in
-    let last : version ≤ LAST_VERSION = known.1 in
+    let last : version ≤ LAST_CHECK_VERSION = known.1 in
     let small : version < 2 ^ 64 = omega (arith, last) in
     let fits : length history < 2 ^ 64 = omega (arith, few) in
     rw (plain_decimal version small, plain_decimal (length history) fits) (tapes_are_written 0 history (omega (arith, few)) fit.processes)
 
-pub history_is_written : (version : ℕ) (history : List Process) → IsVersion version → IsHistoryInRange history → list_all is_written (front_records version history) ≡ true
+pub history_is_written : (version : ℕ) (history : List Process) → IsCheckVersion version → IsHistoryInRange history → list_all is_written (front_records version history) ≡ true
 history_is_written version history known fit = memory_is_written version history known (history_fits history fit)
 
-pub text_again : (version : ℕ) (history : List Process) → IsVersion version → IsHistoryInRange history → length history ≤ most_in version → history_of_text (records_text (front_records version history)) ≡ Ok history
+pub text_again : (version : ℕ) (history : List Process) → IsCheckVersion version → IsHistoryInRange history → length history ≤ most_in version → history_of_text (records_text (front_records version history)) ≡ Ok history
 text_again version history known fit room =
     let written = history_is_written version history known fit in
     rw (written_is_input (front_records version history) written, written_is_read (front_records version history) written) (history_again version history known fit room)
 
 -- the records of a history are read from its text
-records_again : (version : ℕ) (history : List Process) → IsVersion version → FitsMemory history → records_of_text (records_text (front_records version history)) ≡ front_records version history
+records_again : (version : ℕ) (history : List Process) → IsCheckVersion version → FitsMemory history → records_of_text (records_text (front_records version history)) ≡ front_records version history
 records_again version history known fit = written_is_read (front_records version history) (memory_is_written version history known fit)
 
 -- one text is of one history
-pub one_history : (version later : ℕ) (history other : List Process) → IsVersion version → IsVersion later → FitsMemory history → FitsMemory other
+pub one_history : (version later : ℕ) (history other : List Process) → IsCheckVersion version → IsCheckVersion later → FitsMemory history → FitsMemory other
     → records_text (front_records version history) ≡ records_text (front_records later other) → history ≡ other
 one_history version later history other known also fit good same =
     records_apart version later history other fit good (sym (records_again version history known fit) ∙ ap records_of_text same ∙ records_again later other also good)

@@ -1,26 +1,33 @@
 -- Which claim a list of records spells, and the first fault where it spells none.
-use Rattle.std.specs.Prelude.{ℕ, ◌==◌, ◌&&◌, Bool, true, false, List, [], ◌∷◌, Result, Ok, codes}
+use Rattle.std.specs.Prelude.{ℕ, zero, suc, ◌==◌, ◌&&◌, nat_le, Bool, true, false, List, []}
+use Rattle.std.specs.Prelude.{◌∷◌, Result, Ok, codes}
 use Rattle.line_names.specs.declared.certificates.Passed.{Passed}
 use Rattle.line_names.specs.declared.choices.Choice.{Choice}
+use Rattle.line_check.specs.declared.answers.Replay.{Replay}
+use Rattle.line_check.specs.declared.answers.Start.{Start}
 use Rattle.line_fields.specs.declared.faults.Fault.TheVariants as faults
 use Rattle.line_fields.specs.Fields.{◌>>=◌, want}
 use Rattle.line_fields.specs.Records.{Record}
 use Rattle.line_tape.specs.Views.{MarksView, no_marks}
 use Rattle.line_claims.specs.declared.claims.Claim as made
 use Rattle.line_claims.specs.declared.faults.TextFault.{TextFault}
-use Rattle.line_claims.specs.Entries.{damage_of, bar_of, failed_of, line_of, entry_of, end_of}
-use Rattle.line_claims.specs.Parts.{many, is_named, one}
+use Rattle.line_claims.specs.Entries.{damage_of, bar_of, failed_of, line_of, entry_of, start_of}
+use Rattle.line_claims.specs.Entries.{replay_of, end_of}
+use Rattle.line_claims.specs.Parts.{Part, many, is_named, one}
 use Rattle.line_claims.specs.Reads.{at_record}
+use Rattle.line_claims.specs.Versions.{starts_in}
 
 -- the marks of damage and the bars, the failed processes, a line, and the entries of its
--- certificate
+-- certificate; from version 3 on also where each process goes on, and what is sent again
 pub record Claim : Type 0 where
   pub marks : MarksView
   pub failed : List Bool
   pub line : List Choice
   pub certificate : List Passed
+  pub starts : List Start
+  pub replays : List Replay
 
--- a claim with its certificate as a list
+-- a claim with lists in place of what keeps them
 abbrev pub claim_view : made.Claim → Claim
 claim_view claim =
     record {
@@ -28,6 +35,8 @@ claim_view claim =
       failed = claim.failed;
       line = claim.line;
       certificate = claim.certificate.items;
+      starts = claim.starts.items;
+      replays = claim.replays.items;
     }
 
 -- there are no records
@@ -37,7 +46,20 @@ is_none (r ∷ rest) = false
 
 -- a record that bars a process, which version 1 does not know
 abbrev pub is_bar : ℕ → Record → Bool
-is_bar version r = (version == 2) && is_named (codes "bar") r
+is_bar version r = nat_le 2 version && is_named (codes "bar") r
+
+-- a record of a message that is sent again, which version 3 knows
+abbrev pub is_replay : ℕ → Record → Bool
+is_replay version r = (version == 3) && is_named (codes "replay") r
+
+-- where so many processes go on, after these, by records the first of which is the i-th
+unfoldable pub starts_from : ℕ → ℕ → List Start → ℕ → List Record
+    → Result (Part (List Start)) TextFault
+starts_from n zero starts i records =
+    Ok (record { value = starts; number = i; left = records })
+starts_from n (suc others) starts i records = do
+  start ← one (codes "start") (start_of n starts) i records
+  starts_from n others start.value start.number start.left
 
 -- the claim of that version among n processes that records spell, the first of which is the i-th of
 -- the text
@@ -48,7 +70,9 @@ claim_from version n i records = do
   failed ← one (codes "failed") (failed_of n) marks.number marks.left
   line ← one (codes "line") (line_of version) failed.number failed.left
   entries ← many (is_named (codes "pass")) (entry_of n) [] line.number line.left
-  end ← one (codes "end") end_of entries.number entries.left
+  starts ← starts_from n (starts_in version n) [] entries.number entries.left
+  replays ← many (is_replay version) (replay_of n) [] starts.number starts.left
+  end ← one (codes "end") end_of replays.number replays.left
   last ← at_record end.number (want (is_none end.left) faults.BadRecord)
   Ok
       (record {
@@ -56,4 +80,6 @@ claim_from version n i records = do
         failed = failed.value;
         line = line.value;
         certificate = entries.value;
+        starts = starts.value;
+        replays = replays.value;
       })

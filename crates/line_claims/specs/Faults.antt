@@ -37,4 +37,10 @@ name_of code =
     else if code == 37 then codes "WriteFault"
     else if code == 38 then codes "NamesDisagree"
     else if code == 40 then codes "BarNotLower"
+    else if code == 41 then codes "StateDiffers"
+    else if code == 42 then codes "IncarnationDiffers"
+    else if code == 43 then codes "NotInTransit"
+    else if code == 44 then codes "ReplayDiffers"
+    else if code == 45 then codes "ReplayRepeated"
+    else if code == 46 then codes "ReplayMissing"
     else []

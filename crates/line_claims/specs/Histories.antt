@@ -9,7 +9,7 @@ use Rattle.line_fields.specs.Shapes.{two}
 use Rattle.line_tape.specs.declared.limits.TheConstants.{MOST_EVENTS}
 use Rattle.line_tape.specs.History.{Process, fresh, tape_at, with_event, with_incarnation}
 use Rattle.line_claims.specs.declared.faults.TextFault.{TextFault}
-use Rattle.line_claims.specs.declared.versions.TheConstants.{LAST_VERSION}
+use Rattle.line_claims.specs.declared.versions.TheConstants.{LAST_CHECK_VERSION}
 use Rattle.line_claims.specs.Events.{is_event, event_of}
 use Rattle.line_claims.specs.Numbers.{plain, incarnation}
 use Rattle.line_claims.specs.Parts.{Part, begins, first, many, is_named, one}
@@ -19,7 +19,7 @@ use Rattle.line_claims.specs.Versions.{most_in}
 -- history,V,N: the version and the number of processes
 unfoldable pub head_of : Record → Result (ℕ × ℕ) Fault
 head_of = two plain plain (λ version n. do
-  known ← want (nat_le 1 version && nat_le version LAST_VERSION) faults.BadVersion
+  known ← want (nat_le 1 version && nat_le version LAST_CHECK_VERSION) faults.BadVersion
   within ← want (nat_le 1 n && nat_le n (most_in version)) faults.BadCount
   Ok (version, n))
 

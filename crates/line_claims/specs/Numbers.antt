@@ -6,7 +6,7 @@ use Rattle.line_names.specs.declared.choices.Choice.{Choice}
 use Rattle.line_names.specs.declared.choices.Choice.TheVariants.{Check, Now}
 use Rattle.line_fields.specs.declared.faults.Fault.{Fault}
 use Rattle.line_fields.specs.declared.faults.Fault.TheVariants as faults
-use Rattle.line_fields.specs.Fields.{◌>>=◌, want, num}
+use Rattle.line_fields.specs.Fields.{◌>>=◌, want, num, hex}
 use Rattle.line_fields.specs.Records.{Record}
 use Rattle.line_tape.specs.declared.limits.TheConstants.{LAST_INCARNATION, LAST_ROUND}
 use Rattle.line_claims.specs.declared.numbers.TheConstants.{MOST_NUMBER}
@@ -30,6 +30,11 @@ none_text = codes "-"
 -- a round, or none
 abbrev pub round_or_none : List ℕ → Result (Option ℕ) Fault
 round_or_none text = if bytes_eq text none_text then Ok None else (round text >>= λ r. Ok (Some r))
+
+-- a state, or none
+abbrev pub state_or_none : List ℕ → Result (Option (List ℕ)) Fault
+state_or_none text =
+    if bytes_eq text none_text then Ok None else (hex text >>= λ state. Ok (Some state))
 
 -- the word for where a process stands now
 abbrev pub now_text : List ℕ

@@ -1,12 +1,15 @@
 -- What keeps to the ranges that the fields of its records have.
-use Rattle.std.specs.Prelude.{◌≡◌, ℕ, ◌≤◌, ◌<◌, ◌^◌, ◌==◌, false, List, [], ◌∷◌, ◌++◌, length}
-use Rattle.std.specs.Prelude.{Option, Some, None}
+use Rattle.std.specs.Prelude.{◌≡◌, ℕ, ◌≤◌, ◌<◌, ◌^◌, ◌==◌, nat_le, true, false, List, [], ◌∷◌}
+use Rattle.std.specs.Prelude.{◌++◌, length, Option, Some, None}
 use Rattle.std.specs.List.{AllByRecursion, list_any}
+use Rattle.std.specs.Option.{is_some}
 use Rattle.line_names.specs.declared.certificates.Passed.{Passed}
 use Rattle.line_names.specs.declared.choices.Choice.{Choice}
 use Rattle.line_names.specs.declared.choices.Choice.TheVariants.{Check as AtCheck, Now}
 use Rattle.line_names.specs.Sets.{is_member}
 use Rattle.line_names.specs.declared.limits.TheConstants.{MOST_BODY, MOST_PROCESSES}
+use Rattle.line_check.specs.declared.answers.Replay.{Replay}
+use Rattle.line_check.specs.declared.answers.Start.{Start}
 use Rattle.line_tape.specs.declared.events.Event.{Event}
 use Rattle.line_tape.specs.declared.events.Event.TheVariants.{Send, Recv, Check, Mark}
 use Rattle.line_tape.specs.declared.limits.TheConstants.{LAST_INCARNATION, MOST_EVENTS, MOST_STATE}
@@ -14,8 +17,7 @@ use Rattle.line_tape.specs.declared.limits.TheConstants.{LAST_ROUND}
 use Rattle.line_tape.specs.History.{Process}
 use Rattle.line_claims.specs.declared.numbers.TheConstants.{MOST_NUMBER}
 use Rattle.line_claims.specs.Claims.{Claim}
-use Rattle.line_claims.specs.Records.{version_of}
-use Rattle.line_claims.specs.Versions.{most_in}
+use Rattle.line_claims.specs.Versions.{most_in, starts_in}
 
 -- bytes, and at most so many
 pub record AreBytes (most : ℕ) (bytes : List ℕ) : Type 0 where
@@ -104,9 +106,27 @@ abbrev pub IsBar : Option ℕ → Type 0
 IsBar None = Unit {0}
 IsBar (Some check) = check ≤ MOST_NUMBER
 
--- a claim, on a history of as many processes as it has lists of marks, whose line is no longer than
--- its version allows
-pub record IsClaimInRange (claim : Claim) : Type 0 where
+-- a state, if there is one
+abbrev pub IsStateInRange : Option (List ℕ) → Type 0
+IsStateInRange None = Unit {0}
+IsStateInRange (Some state) = AreBytes MOST_STATE state
+
+-- where a process goes on
+pub record IsStartInRange (start : Start) : Type 0 where
+  pub inc : start.inc ≤ LAST_INCARNATION
+  pub state : IsStateInRange start.state
+
+-- a message that is sent again, among n processes
+pub record IsReplayInRange (n : ℕ) (replay : Replay) : Type 0 where
+  pub from : replay.message.from < n
+  pub inc : replay.message.inc ≤ LAST_INCARNATION
+  pub number : replay.message.number ≤ MOST_NUMBER
+  pub to : replay.to < n
+  pub place : replay.place ≤ MOST_NUMBER
+  pub body : AreBytes MOST_BODY replay.body
+
+-- a claim in a text of that version, on a history of as many processes as it has lists of marks
+pub record IsClaimInRange (version : ℕ) (claim : Claim) : Type 0 where
   pub few : length claim.marks.damaged ≤ MOST_PROCESSES
   pub marks : AllByRecursion (AreMarks []) claim.marks.damaged
   pub barred : length claim.marks.bars ≡ length claim.marks.damaged
@@ -114,6 +134,11 @@ pub record IsClaimInRange (claim : Claim) : Type 0 where
   pub whole : length claim.failed ≡ MOST_PROCESSES
   pub there : (p : ℕ) → length claim.marks.damaged ≤ p → is_member claim.failed p ≡ false
   pub some : 1 ≤ length claim.line
-  pub short : length claim.line ≤ most_in (version_of claim.marks)
+  pub short : length claim.line ≤ most_in version
   pub choices : AllByRecursion IsChoice claim.line
   pub entries : AllByRecursion (IsEntryInRange (length claim.marks.damaged)) claim.certificate
+  pub known : list_any is_some claim.marks.bars ≡ true → nat_le 2 version ≡ true
+  pub counted : length claim.starts ≡ starts_in version (length claim.marks.damaged)
+  pub starts : AllByRecursion IsStartInRange claim.starts
+  pub later : (version == 3) ≡ false → claim.replays ≡ []
+  pub replays : AllByRecursion (IsReplayInRange (length claim.marks.damaged)) claim.replays

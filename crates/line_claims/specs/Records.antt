@@ -8,6 +8,9 @@ use Rattle.line_names.specs.declared.choices.Choice.{Choice}
 use Rattle.line_names.specs.declared.choices.Choice.TheVariants.{Check as AtCheck, Now}
 use Rattle.line_names.specs.declared.messages.MsgName.{MsgName}
 use Rattle.line_names.specs.Sets.{is_member}
+use Rattle.line_check.specs.declared.answers.Replay.{Replay}
+use Rattle.line_check.specs.declared.answers.Start.{Start}
+use Rattle.line_check.specs.Answers.{replays_due, starts_due}
 use Rattle.line_fields.specs.Records.{Record}
 use Rattle.line_fields.specs.Texts.{hex_text}
 use Rattle.line_tape.specs.declared.events.Event.{Event}
@@ -120,20 +123,50 @@ abbrev pub pass_record : Passed → Record
 pass_record entry =
     codes "pass" ∷ decimal entry.at ∷ choice_text entry.choice ∷ name_fields entry.message
 
+-- a state, or `-` where there is none
+abbrev pub stored_text : Option (List ℕ) → List ℕ
+stored_text None = none_text
+stored_text (Some state) = hex_text state
+
+-- start,P,INC,HEX
+abbrev pub start_record : ℕ → Start → Record
+start_record p start =
+    codes "start" ∷ decimal p ∷ decimal start.inc ∷ stored_text start.state ∷ []
+
+-- where processes go on, the first of which has that number
+abbrev pub starts_records : ℕ → List Start → List Record
+starts_records p [] = []
+starts_records p (start ∷ others) = start_record p start ∷ starts_records (p + 1) others
+
+-- replay,FROM,INC,NUMBER,TO,PLACE,HEX
+abbrev pub full_replay_record : Replay → Record
+full_replay_record replay =
+    codes "replay" ∷ decimal replay.message.from ∷ decimal replay.message.inc
+    ∷ decimal replay.message.number ∷ decimal replay.to ∷ decimal replay.place
+    ∷ hex_text replay.body ∷ []
+
 -- end
 abbrev pub end_record : Record
 end_record = codes "end" ∷ []
 
+-- where the processes go on, what is sent again, and the end
+abbrev pub rest_records : List Start → List Replay → List Record
+rest_records starts replays =
+    starts_records 0 starts ++ (map full_replay_record replays ++ end_record ∷ [])
+
 -- what stands after the marks of a claim
-abbrev pub judged_records : ℕ → List Bool → List Choice → List Passed → List Record
-judged_records n failed line certificate =
-    failed_record n failed ∷ line_record line ∷ (map pass_record certificate ++ end_record ∷ [])
+abbrev pub judged_records : ℕ → List Bool → List Choice → List Passed → List Start → List Replay
+    → List Record
+judged_records n failed line certificate starts replays =
+    failed_record n failed ∷ line_record line
+    ∷ (map pass_record certificate ++ rest_records starts replays)
 
 -- a claim
 abbrev pub claim_records : Claim → List Record
 claim_records claim =
     marks_records claim.marks
     ++ judged_records (length claim.marks.damaged) claim.failed claim.line claim.certificate
+    claim.starts claim.replays
 
 -- the damaged checks of process p, of its checks up to the last one, in order
 abbrev pub damaged_checks : MarksView → ℕ → ℕ → List ℕ
@@ -150,9 +183,28 @@ in_order history marks = record {
   bars = map (bar_at marks) (range_with_len 0 (length history));
 }
 
--- a history, and a claim on it
-abbrev pub check_records : List Process → Claim → List Record
-check_records history claim =
-    front_records (version_of claim.marks) history
+-- a history, and a claim on it, in a text of that version
+abbrev pub check_records_in : ℕ → List Process → Claim → List Record
+check_records_in version history claim =
+    front_records version history
     ++ (marks_records claim.marks
-    ++ judged_records (length history) claim.failed claim.line claim.certificate)
+    ++ judged_records (length history) claim.failed claim.line claim.certificate claim.starts
+    claim.replays)
+
+-- a history, and a claim on it, in the version that its marks ask for
+abbrev pub check_records : List Process → Claim → List Record
+check_records history claim = check_records_in (version_of claim.marks) history claim
+
+-- a history, and the right answer to a recovery of it that goes back to this line
+abbrev pub whole_answer_records : List Process → MarksView → List Bool → List Choice → List Passed
+    → List Record
+whole_answer_records history marks failed line certificate =
+    check_records_in 3 history
+    (record {
+      marks = marks;
+      failed = failed;
+      line = line;
+      certificate = certificate;
+      starts = starts_due history line;
+      replays = replays_due history line;
+    })

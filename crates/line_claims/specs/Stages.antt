@@ -1,6 +1,7 @@
 -- What records still spell of a claim or a history, the first parts of which were taken.
 use Rattle.std.specs.Prelude.{◌≡◌, ℕ, zero, suc, ◌+◌, ◌-◌, List, [], ◌∷◌, Bool, true, false}
-use Rattle.std.specs.Prelude.{Result, Ok, Err, codes}
+use Rattle.std.specs.Prelude.{length, Result, Ok, Err, codes}
+use Rattle.line_check.specs.declared.answers.Start.{Start}
 use Rattle.line_fields.specs.declared.faults.Fault.TheVariants as faults
 use Rattle.line_fields.specs.Fields.{◌>>=◌, want}
 use Rattle.line_fields.specs.Records.{Record}
@@ -11,16 +12,26 @@ use Rattle.line_claims.specs.declared.claims.ClaimStage.{ClaimStage}
 use Rattle.line_claims.specs.declared.claims.ClaimStage.TheVariants as stages
 use Rattle.line_claims.specs.declared.faults.TextError.{TextError}
 use Rattle.line_claims.specs.declared.faults.TextFault.{TextFault}
-use Rattle.line_claims.specs.Claims.{Claim, is_bar, is_none}
+use Rattle.line_claims.specs.Claims.{Claim, is_bar, is_none, is_replay, starts_from}
 use Rattle.line_claims.specs.Entries.{bar_of, damage_of, end_of, entry_of, failed_of, line_of}
+use Rattle.line_claims.specs.Entries.{replay_of}
 use Rattle.line_claims.specs.Events.{is_event}
 use Rattle.line_claims.specs.Histories.{event_at, tapes_from}
 use Rattle.line_claims.specs.Parts.{Part, is_named, many, one}
 use Rattle.line_claims.specs.Reads.{FailsText, at_record}
+use Rattle.line_claims.specs.Versions.{starts_in}
 
 -- a claim of which nothing was taken
 abbrev pub no_claim : ℕ → Claim
-no_claim n = record { marks = no_marks n; failed = nobody; line = []; certificate = [] }
+no_claim n =
+    record {
+      marks = no_marks n;
+      failed = nobody;
+      line = [];
+      certificate = [];
+      starts = [];
+      replays = [];
+    }
 
 -- the claim that these records end, from the i-th on, of which all was taken
 abbrev pub nothing_left : Claim → ℕ → List Record → Result Claim TextFault
@@ -33,17 +44,34 @@ end_left claim i records = do
   end ← one (codes "end") end_of i records
   nothing_left claim end.number end.left
 
+-- that they end with more messages that are sent again
+abbrev pub replays_left : ℕ → ℕ → Claim → ℕ → List Record → Result Claim TextFault
+replays_left version n claim i records = do
+  replays ← many (is_replay version) (replay_of n) claim.replays i records
+  end_left (record claim { replays = replays.value }) replays.number replays.left
+
+-- of how many of so many processes it was not taken where they go on
+abbrev pub starts_to_come : ℕ → List Start → ℕ
+starts_to_come count [] = count
+starts_to_come count (start ∷ others) = count - length (start ∷ others)
+
+-- that they end with where the processes go on of which that was not taken
+abbrev pub starts_left : ℕ → ℕ → Claim → ℕ → List Record → Result Claim TextFault
+starts_left version n claim i records = do
+  starts ← starts_from n (starts_to_come (starts_in version n) claim.starts) claim.starts i records
+  replays_left version n (record claim { starts = starts.value }) starts.number starts.left
+
 -- that they end with more entries
-abbrev pub entries_left : ℕ → Claim → ℕ → List Record → Result Claim TextFault
-entries_left n claim i records = do
+abbrev pub entries_left : ℕ → ℕ → Claim → ℕ → List Record → Result Claim TextFault
+entries_left version n claim i records = do
   entries ← many (is_named (codes "pass")) (entry_of n) claim.certificate i records
-  end_left (record claim { certificate = entries.value }) entries.number entries.left
+  starts_left version n (record claim { certificate = entries.value }) entries.number entries.left
 
 -- that they end with a line
 abbrev pub line_left : ℕ → ℕ → Claim → ℕ → List Record → Result Claim TextFault
 line_left version n claim i records = do
   line ← one (codes "line") (line_of version) i records
-  entries_left n (record claim { line = line.value }) line.number line.left
+  entries_left version n (record claim { line = line.value }) line.number line.left
 
 -- that they end with the processes that failed
 abbrev pub failed_left : ℕ → ℕ → Claim → ℕ → List Record → Result Claim TextFault
@@ -68,7 +96,9 @@ abbrev pub claim_left : ClaimStage → ℕ → ℕ → Claim → ℕ → List Re
 claim_left stages.Damage version n claim i records = damage_left version n claim i records
 claim_left stages.Bars version n claim i records = bars_left version n claim i records
 claim_left stages.Line version n claim i records = line_left version n claim i records
-claim_left stages.Entries version n claim i records = entries_left n claim i records
+claim_left stages.Entries version n claim i records = entries_left version n claim i records
+claim_left stages.Starts version n claim i records = starts_left version n claim i records
+claim_left stages.Replays version n claim i records = replays_left version n claim i records
 claim_left stages.Nothing version n claim i records = nothing_left claim i records
 
 -- the tape that was begun last, with the events that these records go on with

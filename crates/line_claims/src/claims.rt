@@ -7,17 +7,20 @@ ghost use Rattle.line_claims.specs.Reads.{Yields};
 ghost use Rattle.line_claims.specs.Stages.{Goes};
 ghost use Rattle.line_claims.specs.Stages as spec;
 
-use crate::entries::{bar_of, damage_of, entry_of, failed_of, line_of};
+use crate::entries::{bar_of, damage_of, entry_of, failed_of, line_of, replay_of, start_of};
 use crate::faults::{TextError, error_at, fault_at};
 use crate::numbers::want;
 use crate::parts::is_named;
+use crate::versions::starts_in;
+use line_check::{Replay, Start};
 use line_fields::{Fault, FieldRow};
 use line_names::{Certificate, Line, MOST_PROCESSES, ProcSet};
 use line_tape::Marks;
 use std::alloc::{AllocError, Global};
 
 /// What is claimed of a history: that this is the latest line, where these checks are damaged,
-/// processes are barred at these checks and these failed, and that this certificate shows it.
+/// processes are barred at these checks and these failed, and that this certificate shows it. From
+/// version 3 on it has the whole answer to a recovery.
 #[derive(Drop)]
 pub struct Claim {
     /// The checks that are damaged, and those at which processes are barred.
@@ -28,6 +31,10 @@ pub struct Claim {
     pub line: Line,
     /// The entries of its certificate, in the order in which they are to be tested.
     pub certificate: Certificate,
+    /// Where each process goes on; of none before version 3.
+    pub starts: Vec<Start>,
+    /// The messages that are sent again; none before version 3.
+    pub replays: Vec<Replay>,
 }
 
 /// Which part of a claim its next record may be of, if not of one that may follow that part.
@@ -39,8 +46,12 @@ pub(crate) enum ClaimStage {
     Bars,
     /// The line.
     Line,
-    /// The entries of the certificate, and after them the end.
+    /// The entries of the certificate.
     Entries,
+    /// Where the processes go on, of those of which that was not taken.
+    Starts,
+    /// The messages that are sent again, and after them the end.
+    Replays,
     /// None: the claim has ended.
     Nothing,
 }
@@ -56,35 +67,107 @@ pub(crate) fn begin_claim(alloc: Global, n: u32) -> Result<Claim, AllocError>
         failed: ProcSet::empty(),
         line: Line::new(),
         certificate: Certificate::new(alloc),
+        starts: Vec::new(alloc),
+        replays: Vec::new(alloc),
     })
 }
 
-// Takes an entry of the certificate of a claim, or the end, which follows the entries.
-fn take_entry(
-    n: u32,
-    claim: &mut Claim,
-    number: u64,
-    row: &FieldRow<'_>,
-) -> Result<ClaimStage, TextError>
-    requires { n ≤ MOST_PROCESSES }
-    ensures exact { (version : ℕ)
-        → Goes result (spec.entries_left n (claims.claim_view claim.old) number)
+// Takes the end of a claim.
+fn take_end(claim: &mut Claim, number: u64, row: &FieldRow<'_>) -> Result<ClaimStage, TextError>
+    ensures exact { (version n : ℕ)
+        → Goes result (spec.end_left (claims.claim_view claim.old) number)
         (λ stage. spec.claim_left stage version n (claims.claim_view claim.new)
         (number + 1)) row.now }
-    ensures same { claim.new.marks ≡ claim.old.marks }
+    ensures same { claim.new ≡ claim.old }
 {
-    if is_named(row, b"pass") {
-        return match entry_of(&mut claim.certificate, n, row) {
-            Ok(()) => Ok(ClaimStage::Entries),
-            Err(error) => Err(error_at(number, error)),
-        };
-    }
     if !is_named(row, b"end") {
         return Err(fault_at(number, Fault::BadRecord));
     }
     match want(row.len() == 1, Fault::BadRecord) {
         Ok(()) => Ok(ClaimStage::Nothing),
         Err(fault) => Err(fault_at(number, fault)),
+    }
+}
+
+// Whether a record is of a message that is sent again, which version 3 knows.
+fn is_replay(version: u32, row: &FieldRow<'_>) -> bool
+    ensures { result ≡ claims.is_replay version row.now }
+{
+    version == 3 && is_named(row, b"replay")
+}
+
+// Takes a message that is sent again, or the end, which follows these.
+fn take_replay(
+    version: u32,
+    n: u32,
+    claim: &mut Claim,
+    number: u64,
+    row: &FieldRow<'_>,
+) -> Result<ClaimStage, TextError>
+    requires { n ≤ MOST_PROCESSES }
+    ensures exact { Goes result (spec.replays_left version n (claims.claim_view claim.old) number)
+        (λ stage. spec.claim_left stage version n (claims.claim_view claim.new)
+        (number + 1)) row.now }
+    ensures same { claim.new.marks ≡ claim.old.marks }
+{
+    if !is_replay(version, row) {
+        return take_end(claim, number, row);
+    }
+    match replay_of(&mut claim.replays, n, row) {
+        Ok(()) => Ok(ClaimStage::Replays),
+        Err(error) => Err(error_at(number, error)),
+    }
+}
+
+// Takes where the next process goes on, or what follows once that was taken of all.
+fn take_start(
+    version: u32,
+    n: u32,
+    claim: &mut Claim,
+    number: u64,
+    row: &FieldRow<'_>,
+) -> Result<ClaimStage, TextError>
+    requires { n ≤ MOST_PROCESSES }
+    ensures exact { Goes result (spec.starts_left version n (claims.claim_view claim.old) number)
+        (λ stage. spec.claim_left stage version n (claims.claim_view claim.new)
+        (number + 1)) row.now }
+    ensures same { claim.new.marks ≡ claim.old.marks }
+{
+    let starts = claim.starts.as_slice();
+    let taken = starts.len();
+    let count = starts_in(version, n);
+    if taken >= count as usize {
+        return take_replay(version, n, claim, number, row);
+    }
+    if !is_named(row, b"start") {
+        return Err(fault_at(number, Fault::BadRecord));
+    }
+    match start_of(&mut claim.starts, n, row) {
+        Ok(()) => Ok(ClaimStage::Starts),
+        Err(error) => Err(error_at(number, error)),
+    }
+}
+
+// Takes an entry of the certificate of a claim, or what follows the entries.
+fn take_entry(
+    version: u32,
+    n: u32,
+    claim: &mut Claim,
+    number: u64,
+    row: &FieldRow<'_>,
+) -> Result<ClaimStage, TextError>
+    requires { n ≤ MOST_PROCESSES }
+    ensures exact { Goes result (spec.entries_left version n (claims.claim_view claim.old) number)
+        (λ stage. spec.claim_left stage version n (claims.claim_view claim.new)
+        (number + 1)) row.now }
+    ensures same { claim.new.marks ≡ claim.old.marks }
+{
+    if !is_named(row, b"pass") {
+        return take_start(version, n, claim, number, row);
+    }
+    match entry_of(&mut claim.certificate, n, row) {
+        Ok(()) => Ok(ClaimStage::Entries),
+        Err(error) => Err(error_at(number, error)),
     }
 }
 
@@ -146,7 +229,7 @@ fn take_failed(
 fn is_bar(version: u32, row: &FieldRow<'_>) -> bool
     ensures { result ≡ claims.is_bar version row.now }
 {
-    version == 2 && is_named(row, b"bar")
+    version >= 2 && is_named(row, b"bar")
 }
 
 // Takes a bar of a claim in a text of that version, or what may follow the bars.
@@ -219,7 +302,9 @@ pub(crate) fn take_of_claim(
         ClaimStage::Damage => take_damage(version, n, claim, number, row),
         ClaimStage::Bars => take_bar(version, n, claim, number, row),
         ClaimStage::Line => take_line(version, claim, number, row),
-        ClaimStage::Entries => take_entry(n, claim, number, row),
+        ClaimStage::Entries => take_entry(version, n, claim, number, row),
+        ClaimStage::Starts => take_start(version, n, claim, number, row),
+        ClaimStage::Replays => take_replay(version, n, claim, number, row),
         ClaimStage::Nothing => Err(fault_at(number, Fault::BadRecord)),
     }
 }

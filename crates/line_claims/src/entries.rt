@@ -6,11 +6,12 @@ ghost use Rattle.line_claims.specs.Entries as spec;
 ghost use Rattle.line_claims.specs.Numbers.{choices};
 ghost use Rattle.line_claims.specs.Reads.{Steps};
 
-use crate::numbers::{choice, incarnation, plain, process, want};
+use crate::numbers::{choice, incarnation, plain, process, state_or_none, want};
 use crate::versions::most_in;
-use line_fields::{Fault, FieldRow, ReadError};
-use line_names::{Certificate, Line, MsgName, Passed, ProcId, ProcSet};
-use line_tape::{BarError, MarkError, Marks};
+use line_check::{Replay, Start};
+use line_fields::{Fault, FieldRow, ReadError, hex};
+use line_names::{Body, Certificate, Line, MOST_BODY, MsgName, Passed, ProcId, ProcSet};
+use line_tape::{BarError, MOST_STATE, MarkError, Marks, State};
 
 /// Adds the mark of `damage,P,C`.
 #[tactic(auto, unfolding(crate::specs::Entries::damage_of, crate::specs::Entries::one_mark_more, line_fields::specs::Shapes::two))]
@@ -119,6 +120,67 @@ pub(crate) fn entry_of(
         at,
         choice,
         message,
+    })?;
+    Ok(())
+}
+
+// Whether a state is no longer than a check may store.
+fn is_short(state: &Option<State>) -> bool
+    ensures { result ≡ spec.is_short state.now }
+{
+    match state {
+        None => true,
+        Some(state) => state.bytes().len() <= MOST_STATE,
+    }
+}
+
+/// Adds where the next process goes on, of `start,P,INC,HEX`.
+#[tactic(auto, unfolding(crate::specs::Entries::start_of, line_fields::specs::Shapes::three))]
+pub(crate) fn start_of(starts: &mut Vec<Start>, n: u32, row: &FieldRow<'_>) -> Result<(), ReadError>
+    requires { n ≤ MOST_PROCESSES }
+    ensures exact { Steps result (spec.start_of n starts.old.items row.now) starts.new.items }
+    ensures more { OnOk result (length starts.new.items ≡ length starts.old.items + 1) }
+{
+    let alloc = *starts.allocator();
+    want(row.len() == 4, Fault::BadRecord)?;
+    let p = plain(row, 1)?;
+    let inc = incarnation(row, 2)?;
+    let state = state_or_none(alloc, row, 3)?;
+    let p = process(n, p)?;
+    want(p.get() as usize == starts.len(), Fault::BadRecord)?;
+    want(is_short(&state), Fault::StateTooLong)?;
+    starts.push(Start { inc, state })?;
+    Ok(())
+}
+
+/// Adds the message of `replay,FROM,INC,NUMBER,TO,PLACE,HEX`.
+#[tactic(auto, unfolding(crate::specs::Entries::replay_of))]
+pub(crate) fn replay_of(
+    replays: &mut Vec<Replay>,
+    n: u32,
+    row: &FieldRow<'_>,
+) -> Result<(), ReadError>
+    requires { n ≤ MOST_PROCESSES }
+    ensures { Steps result (spec.replay_of n replays.old.items row.now) replays.new.items }
+{
+    let alloc = *replays.allocator();
+    want(row.len() == 7, Fault::BadRecord)?;
+    let from = plain(row, 1)?;
+    let inc = incarnation(row, 2)?;
+    let number = plain(row, 3)?;
+    let to = plain(row, 4)?;
+    let place = plain(row, 5)?;
+    let bytes = hex(alloc, row.field(6))?;
+    let from = process(n, from)?;
+    let to = process(n, to)?;
+    want(bytes.len() <= MOST_BODY, Fault::BodyTooLong)?;
+    let body = Body::try_new(bytes.as_slice()).unwrap();
+    let message = MsgName { from, inc, number };
+    replays.push(Replay {
+        message,
+        to,
+        place,
+        body,
     })?;
     Ok(())
 }

@@ -50,6 +50,12 @@ pub fn name_of(code: u32) -> &'static str
         37 => "WriteFault",
         38 => "NamesDisagree",
         40 => "BarNotLower",
+        41 => "StateDiffers",
+        42 => "IncarnationDiffers",
+        43 => "NotInTransit",
+        44 => "ReplayDiffers",
+        45 => "ReplayRepeated",
+        46 => "ReplayMissing",
         _ => "",
     }
 }

@@ -18,7 +18,7 @@ use crate::events::{Kind, kind_of};
 use crate::faults::{TextError, error_at, fault_at};
 use crate::numbers::{incarnation, plain, process, round, round_or_none, want};
 use crate::parts::is_named;
-use crate::versions::{LAST_VERSION, most_in};
+use crate::versions::{LAST_CHECK_VERSION, most_in};
 use line_fields::{Fault, FieldRow, ReadError, RecordReader, hex, hex_into};
 use line_names::{MOST_BODY, MsgName, ProcId};
 use line_tape::{CountError, Event, History, MOST_EVENTS, MOST_STATE, State};
@@ -33,7 +33,7 @@ fn head_of(row: &FieldRow<'_>) -> Result<(u32, u32), Fault>
     want(row.len() == 3, Fault::BadRecord)?;
     let version = plain(row, 1)?;
     let n = plain(row, 2)?;
-    let known = 1 <= version && version <= LAST_VERSION;
+    let known = 1 <= version && version <= LAST_CHECK_VERSION;
     want(known, Fault::BadVersion)?;
     want(1 <= n && n <= most_in(version), Fault::BadCount)?;
     Ok((version, n))

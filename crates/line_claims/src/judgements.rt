@@ -1,6 +1,6 @@
 //! Claims, written record by record.
 
-ghost use Rattle.std.specs.Prelude.{◌≡◌, ◌≤◌, ◌++◌, map};
+ghost use Rattle.std.specs.Prelude.{◌≡◌, ◌≤◌, ◌++◌, [], map};
 ghost use Rattle.line_devices.specs.Devices.{Outputs};
 ghost use Rattle.line_names.specs.declared.limits.TheConstants.{MOST_PROCESSES};
 ghost use Rattle.line_fields.specs.Texts.{record_text, records_text};
@@ -17,8 +17,8 @@ use line_fields::{
 use line_names::{Choice, Line, MOST_PROCESSES, Passed, ProcId, ProcSet};
 use line_tape::{History, Marks};
 
-// Writes `failed,P,..`: the processes of a set, of the first `n`, in order.
-fn put_failed<K: Sink>(
+/// Writes `failed,P,..`: the processes of a set, of the first `n`, in order.
+pub(crate) fn put_failed<K: Sink>(
     sink: &mut K,
     writer: &mut RecordWriter,
     n: u32,
@@ -41,8 +41,8 @@ fn put_failed<K: Sink>(
     close_record(sink, writer)
 }
 
-// Writes `line,CHOICE,..`.
-fn put_line<K: Sink>(
+/// Writes `line,CHOICE,..`.
+pub(crate) fn put_line<K: Sink>(
     sink: &mut K,
     writer: &mut RecordWriter,
     line: &Line,
@@ -109,8 +109,8 @@ pub fn put_pass<K: Sink>(
     put_numbers(sink, writer, b"pass", &numbers)
 }
 
-// Writes the entries of a certificate.
-fn put_passes<K: Sink>(
+/// Writes the entries of a certificate.
+pub(crate) fn put_passes<K: Sink>(
     sink: &mut K,
     writer: &mut RecordWriter,
     entries: &[Passed],
@@ -168,6 +168,8 @@ pub fn put_check_text<K: Sink>(
           failed = failed.now;
           line = line.now;
           certificate = certificate.now;
+          starts = [];
+          replays = [];
         }))) }
 {
     let version = version_of(history, marks);

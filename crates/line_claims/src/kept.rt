@@ -1,6 +1,6 @@
 //! Histories and check texts that are written into memory.
 
-ghost use Rattle.std.specs.Prelude.{◌≡◌, Ok, IfOk, OnOk};
+ghost use Rattle.std.specs.Prelude.{◌≡◌, [], Ok, IfOk, OnOk};
 ghost use Rattle.line_fields.specs.Texts.{records_text};
 ghost use Rattle.line_claims.specs.Ranges.{AreRoundsInRange, FitsMemory};
 ghost use Rattle.line_claims.specs.Records as spec;
@@ -63,6 +63,8 @@ pub fn write_check_text(
           failed = failed.now;
           line = line.now;
           certificate = certificate.now;
+          starts = [];
+          replays = [];
         }))) }
 {
     let mut writer = RecordWriter::with_room(alloc)?;

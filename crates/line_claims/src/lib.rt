@@ -2,9 +2,11 @@
 //!
 //! A history text has the tapes of all processes. A check text is a history text and a claim on it:
 //! the checks that are damaged, the processes that are barred, those that failed, a line, and the
-//! certificate of that line.
+//! certificate of that line. From version 3 on it has the whole answer to a recovery: where each
+//! process goes on, and the messages that are sent again.
 #![tactic(auto)]
 
+mod answers;
 mod claims;
 mod entries;
 mod events;
@@ -22,6 +24,7 @@ mod texts;
 mod versions;
 mod writers;
 
+pub use answers::{ClaimRef, put_answer};
 pub use claims::Claim;
 pub use entries::failed_of;
 pub use faults::{TextError, TextFault, error_at, fault_at, name_of, told};
@@ -32,5 +35,7 @@ pub use numbers::{plain, want};
 pub use readers::CheckReader;
 pub use spellings::{choice_field, number_field, numbers_of};
 pub use texts::{CheckText, read_certificate, read_check_text, read_history};
-pub use versions::{LAST_VERSION, MOST_IN_FIRST_VERSION, earliest_version, most_in};
+pub use versions::{
+    LAST_CHECK_VERSION, LAST_VERSION, MOST_IN_FIRST_VERSION, earliest_version, most_in,
+};
 pub use writers::put_history;

@@ -6,9 +6,10 @@ ghost use Rattle.line_fields.specs.Fields as fields;
 ghost use Rattle.line_fields.specs.Records as records;
 ghost use Rattle.line_claims.specs.Numbers as spec;
 
-use line_fields::{Fault, FieldRow, number};
+use line_fields::{Fault, FieldRow, ReadError, hex, number};
 use line_names::{Choice, MOST_PROCESSES, ProcId};
-use line_tape::{LAST_INCARNATION, LAST_ROUND};
+use line_tape::{LAST_INCARNATION, LAST_ROUND, State};
+use std::alloc::Global;
 
 /// The greatest number in a field that has no range of its own.
 pub(crate) const MOST_NUMBER: u32 = u32::MAX;
@@ -53,6 +54,22 @@ pub(crate) fn round_or_none(row: &FieldRow<'_>, place: usize) -> Result<Option<u
     }
     let value = round(row, place)?;
     Ok(Some(value))
+}
+
+/// The state in a field, if there is one.
+pub(crate) fn state_or_none(
+    alloc: Global,
+    row: &FieldRow<'_>,
+    place: usize,
+) -> Result<Option<State>, ReadError>
+    ensures { fields.Gives (λ state. state) result
+        (spec.state_or_none (records.field row.now place)) }
+{
+    if row.field(place) == b"-".as_slice() {
+        return Ok(None);
+    }
+    let bytes = hex(alloc, row.field(place))?;
+    Ok(Some(State::of(bytes)))
 }
 
 /// The choice in a field.

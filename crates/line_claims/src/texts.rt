@@ -6,7 +6,7 @@ ghost use Rattle.line_claims.specs.Claims as claims;
 ghost use Rattle.line_claims.specs.Reads.{IsOfText, Reads, Yields, no_memory};
 ghost use Rattle.line_claims.specs.Stages.{claim_left, tapes_left, whole_front};
 ghost use Rattle.line_claims.specs.Texts as spec;
-ghost use Rattle.line_claims.specs.Versions.{IsVersion};
+ghost use Rattle.line_claims.specs.Versions.{IsCheckVersion};
 
 use crate::claims::{Claim, ClaimStage, begin_claim, close_claim, take_of_claim};
 use crate::faults::{TextError, TextFault, fault_at, told};
@@ -154,7 +154,7 @@ pub fn read_certificate(
     version: u32,
 ) -> Result<Claim, TextFault>
     requires few { n ≤ MOST_PROCESSES }
-    requires version { IsVersion version }
+    requires version { IsCheckVersion version }
     ensures exact { Reads claims.claim_view result (spec.certificate_of_text version n text.now) }
     ensures codes { IfErr result (λ fault. (fault ≡ no_memory) ⊎ IsOfText fault) }
 {

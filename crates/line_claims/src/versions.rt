@@ -6,11 +6,14 @@ ghost use Rattle.line_claims.specs.Versions as spec;
 
 use line_names::MOST_PROCESSES;
 
-/// The latest version of texts. The earliest is 1.
+/// The latest version of scripts. The earliest version of a text is 1.
 pub const LAST_VERSION: u32 = 2;
 
+/// The latest version of check texts, and of histories: it has the whole answer to a recovery.
+pub const LAST_CHECK_VERSION: u32 = 3;
+
 /// The greatest number of processes of a text of version 1, and of choices of a line in it. A text
-/// of version 2 may have as many processes as there may be.
+/// of a later version may have as many processes as there may be.
 pub const MOST_IN_FIRST_VERSION: u32 = 64;
 
 /// The greatest number of processes that a text of that version may have, and of choices that a
@@ -36,4 +39,12 @@ pub fn earliest_version(n: u32) -> u32
     ensures room { n ≤ MOST_PROCESSES → n ≤ spec.most_in result }
 {
     if n <= MOST_IN_FIRST_VERSION { 1 } else { 2 }
+}
+
+/// Of how many processes a claim of that version among `n` says where they go on: of all of them
+/// from version 3 on.
+pub(crate) fn starts_in(version: u32, n: u32) -> u32
+    ensures { result ≡ spec.starts_in version n }
+{
+    if version == 3 { n } else { 0 }
 }

@@ -7,17 +7,17 @@
 #![tactic(auto)]
 
 ghost use Rattle.std.specs.Prelude.{◌≡◌, ◌≤◌};
-ghost use Rattle.line_cli.specs.Status.{status_of_service};
-ghost use Rattle.line_statuses.specs.Status.{status_of};
+ghost use Rattle.line_cli.specs.Status.{status_of, status_of_service};
 
-use line_devices::{Sink, put_all};
-use line_drill_texts::drill_text;
+mod statuses;
+
+use crate::statuses::{status_of_drill, status_of_fault};
+use line_conversations::{Outcome, ServeError};
+use line_devices::{ReadSource, Sink, WriteSink, put_all};
+use line_drills::drill_text;
 use line_posts::MOST_WORKERS;
-use line_service::Outcome;
-use line_statuses::{status_of_drill, status_of_fault};
-use line_streams::{ReadSource, WriteSink};
 use line_text::{TextFault, check_text, run_text};
-use line_words::{Job, WordsFault, command_of, fault_of_reading};
+use line_words::{Job, WordsFault, command_of, fault_of_reading, line_with_file};
 use std::alloc::{AllocError, Global};
 use std::process::ExitCode;
 use std::sync::Wait;
@@ -61,11 +61,9 @@ fn status_of_service(outcome: Outcome) -> u8
     }
 }
 
-/// Answers the records on standard input as they come, and says how that went.
-fn serve(rt: &(impl Input + Print + Eprint), alloc: Global) -> u8 {
-    let mut source = ReadSource::new(rt.reader());
-    let mut sink = WriteSink::new(io::writer(rt));
-    match line_service::serve(alloc, &mut source, &mut sink) {
+/// Tells why a service ended before its input did, if it did, and says how that went.
+fn tell_service(rt: &impl Eprint, served: Result<Outcome, ServeError>) -> u8 {
+    match served {
         Ok(outcome) => status_of_service(outcome),
         Err(error) => {
             let code = error.code();
@@ -73,6 +71,20 @@ fn serve(rt: &(impl Input + Print + Eprint), alloc: Global) -> u8 {
             status_of_fault(code)
         }
     }
+}
+
+/// Answers the records on standard input as they come, and says how that went.
+fn serve(rt: &(impl Input + Print + Eprint), alloc: Global) -> u8 {
+    let mut source = ReadSource::new(rt.reader());
+    let mut sink = WriteSink::new(io::writer(rt));
+    tell_service(rt, line_service::serve(alloc, &mut source, &mut sink))
+}
+
+/// Collects what processes report on standard input as it comes, and says how that went.
+fn collect(rt: &(impl Input + Print + Eprint), alloc: Global) -> u8 {
+    let mut source = ReadSource::new(rt.reader());
+    let mut sink = WriteSink::new(io::writer(rt));
+    tell_service(rt, line_collect::collect(alloc, &mut source, &mut sink))
 }
 
 /// Judges the claim on standard input, and says how that went.
@@ -120,15 +132,28 @@ fn show(rt: &(impl Print + Eprint), text: &str) -> u8 {
     0
 }
 
+/// Tells that words are bad, and what to write where they name a file after a command that reads
+/// standard input.
+fn tell_bad(rt: &impl Eprint, words: &[&str]) {
+    let line = match words {
+        [_, command, file] if !file.is_empty() => line_with_file(command),
+        _ => None,
+    };
+    let _ = match line {
+        Some(line) => eprintln!(rt; "recline: bad command line; write: {line}"),
+        None => eprintln!(rt; "recline: bad command line"),
+    };
+}
+
 /// Answers words that ask for no job, and says how that went.
-fn answer(rt: &(impl Print + Eprint), fault: &WordsFault) -> u8
+fn answer(rt: &(impl Print + Eprint), fault: &WordsFault, words: &[&str]) -> u8
     ensures bad { fault.now ≡ WordsFault.Bad → result ≡ 2 }
     ensures memory { fault.now ≡ WordsFault.OutOfMemory → result ≡ 3 }
 {
     match fault {
         WordsFault::Help(text) | WordsFault::Version(text) => show(rt, text),
         WordsFault::Bad => {
-            let _ = eprintln!(rt; "recline: bad command line");
+            tell_bad(rt, words);
             2
         }
         WordsFault::OutOfMemory => {
@@ -164,21 +189,22 @@ fn done(
     given: &[String],
 ) -> u8 {
     let Ok(words) = command_line(alloc, given) else {
-        return answer(rt, &WordsFault::OutOfMemory);
+        return answer(rt, &WordsFault::OutOfMemory, &[]);
     };
     match command_of(alloc, &words) {
         Ok(Job::Run) => run(rt, alloc),
         Ok(Job::Serve) => serve(rt, alloc),
+        Ok(Job::Collect) => collect(rt, alloc),
         Ok(Job::Check) => check(rt, alloc),
         Ok(Job::Drill { workers, rounds }) => drill(rt, alloc, workers, rounds),
-        Err(fault) => answer(rt, &fault),
+        Err(fault) => answer(rt, &fault, &words),
     }
 }
 
 fn main(rt: HostRuntime) -> ExitCode {
     let status = match given_words(&rt, rt.alloc()) {
         Ok(given) => done(&rt, rt.alloc(), &given),
-        Err(error) => answer(&rt, &fault_of_reading(&error)),
+        Err(error) => answer(&rt, &fault_of_reading(&error), &[]),
     };
     ExitCode::from(status)
 }

@@ -4,7 +4,7 @@ use Rattle.std.specs.Prelude.{slice_get, option_map, Bool, false, Result, Ok, Er
 use Rattle.std.specs.declared.vec.Vec.{Vec}
 use Rattle.std.specs.declared.alloc.Global.{Global}
 use Rattle.std.proofs.lemmas.Bool.{cases_lt}
-use Rattle.std.proofs.lemmas.List.{append_assoc, length-append, length_push, get_or_past}
+use Rattle.std.proofs.lemmas.List.{append-nil, append_assoc, length-append, length_push, get_or_past}
 use Rattle.std.proofs.lemmas.Option.{slice_get-map, get_or_from_slice_get, slice_get-get_or}
 use Rattle.line_names.specs.Sets.{is_member}
 use Rattle.line_names.specs.declared.messages.MsgName.{MsgName}
@@ -23,7 +23,7 @@ use Rattle.line_posts.specs.Posts.{PostView, incarnation_of_post, sent_by}
 use Rattle.line_posts.specs.Receipts.{HasTaken}
 use Rattle.line_posts.proofs.GatherLemmas.{own_tape, own_past, in_list, tape_past}
 use Rattle.line_posts.proofs.MeetLemmas.{there}
-use Rattle.line_posts.proofs.SameLemmas.{same_then, same_sent, same_taken}
+use Rattle.line_posts.proofs.SameLemmas.{same_self, same_then, same_sent, same_taken}
 use Rattle.line_posts.proofs.ReplayLemmas.{take_next}
 use Rattle.line_posts.proofs.WholeLemmas.{incarnation_start}
 use Rattle.line_drills.specs.declared.orders.Order.{Order}
@@ -56,6 +56,10 @@ done_long xs a b h = (let e = done_events xs a b h in omega (arith, e))
 
 inc_same : (a b : PostView) → IsSamePost a b → incarnation_of_post b ≡ incarnation_of_post a
 inc_same a b s = ap (incarnation_at b.opening) s.number ∙ ap (λ o. incarnation_at o a.number) s.opening
+
+-- no order
+pub done_none : (a : PostView) → HasDone [] a a
+done_none a = (same_self a, λ f h. h, [], sym (append-nil a.tape), tt)
 
 pub done_then : (xs ys : List Order) (a b c : PostView) → HasDone xs a b → HasDone ys b c → HasDone (xs ++ ys) a c
 done_then xs ys a b c (s, r, d, ed, fd) (t, q, e, ee, fe) = (
@@ -104,6 +108,12 @@ script_there scripts i script at = get_or_from_slice_get (scripts_of scripts) i 
 
 pub there_at : (scripts : List (Vec Order Global)) (i : ℕ) (script : Vec Order Global) → i < length scripts → script ≡ get_or scripts i script → script_at (scripts_of scripts) i ≡ script.items
 there_at scripts i script within is = script_there scripts i script (there scripts scripts i script refl within is)
+
+-- the script at the place of the last worker
+pub own_script : (scripts : List (Vec Order Global)) (a xs : List PostView) (x : PostView) (k : ℕ) (script : Vec Order Global) → a ≡ xs ++ x ∷ [] → length a ≤ length scripts → length xs ≡ k → script ≡ get_or scripts k script → script_at (scripts_of scripts) (length xs) ≡ script.items
+own_script scripts a xs x k script is few place got =
+    let more = ap length is ∙ length_push xs x in
+    ap (script_at (scripts_of scripts)) place ∙ there_at scripts k script (omega (arith, few, more, place)) got
 
 pub drilled_same : (scripts : List (List Order)) (old new : List PostView) → AreDrilled scripts old new → AreSamePosts old new
 drilled_same scripts old new h = record { count = h.count; each = λ i a b ha hb. (h.each i a b ha hb).0 }

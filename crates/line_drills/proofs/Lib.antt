@@ -4,3 +4,4 @@ mod FaultLemmas
 mod CrossingLemmas
 mod MarkerLemmas
 mod WaitLemmas
+mod GateLemmas

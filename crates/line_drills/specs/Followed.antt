@@ -1,12 +1,14 @@
 -- What the workers of a drill have done when they are back.
-use Rattle.std.specs.Prelude.{◌≡◌, ℕ, List, [], ◌∷◌, ◌++◌, length, slice_get, Some, None}
+use Rattle.std.specs.Prelude.{◌≡◌, ◌<◌, ◌≤◌, ◌⊎◌, ℕ, List, [], ◌∷◌, ◌++◌, length, take}
+use Rattle.std.specs.Prelude.{slice_get, Some, None}
 use Rattle.line_names.specs.declared.messages.MsgName.{MsgName}
 use Rattle.line_tape.specs.declared.events.Event.{Event}
 use Rattle.line_tape.specs.declared.events.Event.TheVariants.{Send as SendEvent, Recv}
 use Rattle.line_tape.specs.declared.events.Event.TheVariants.{Check as CheckEvent}
+use Rattle.line_rings.specs.Ends.{slots_of}
 use Rattle.line_posts.specs.Generations.{IsSamePost}
 use Rattle.line_posts.specs.Openings.{HasBegun}
-use Rattle.line_posts.specs.Posts.{PostView, incarnation_of_post}
+use Rattle.line_posts.specs.Posts.{PostView, IsPost, incarnation_of_post, reported_count}
 use Rattle.line_posts.specs.Receipts.{HasTaken}
 use Rattle.line_drills.specs.declared.orders.Order.{Order}
 use Rattle.line_drills.specs.declared.orders.Order.TheVariants.{Send, Receive, Check}
@@ -45,3 +47,13 @@ pub record AreDrilled (scripts : List (List Order)) (old new : List PostView) : 
   pub count : length new ≡ length old
   pub each : (p : ℕ) (a b : PostView) → slice_get old p ≡ Some a → slice_get new p ≡ Some b
       → HasDone (script_at scripts p) a b
+
+-- the worker has reported all of its tape, or as many events as its report line holds
+abbrev pub HasReportedAll : PostView → Type 0
+HasReportedAll post = (reported_count post ≡ length post.tape)
+    ⊎ (slots_of post.line.ring ≤ length post.line.items)
+
+-- the gate let the worker on to each of its first n orders, once it had done those before
+abbrev pub WasLetOn : (ℕ → ℕ → PostView → Type 0) → List Order → ℕ → PostView → Type 0
+WasLetOn lets script n post = (k : ℕ) → k < n
+    → (now : PostView) × HasDone (take k script) post now × IsPost now × lets post.number k now

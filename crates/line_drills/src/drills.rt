@@ -1,6 +1,9 @@
 //! All workers at once, each in a thread of its own.
-ghost use Rattle.std.specs.Prelude.{◌≡◌, ◌≢◌, ◌<◌, ◌≤◌, ◌⊎◌, ◌↔◌, ℕ, IfOk, IfErr, IsErrOf, OnOk};
-ghost use Rattle.std.specs.Prelude.{Some, length, slice_get, vec_capacity};
+ghost use Rattle.std.specs.Prelude.{◌≡◌, ◌≢◌, ◌<◌, ◌≤◌, ◌⊎◌, ◌↔◌, ◌++◌, ◌∷◌, [], ℕ, length};
+ghost use Rattle.std.specs.Prelude.{Some, Ok, Err, IfOk, IfErr, IsErrOf, IsOk, OnOk};
+ghost use Rattle.std.specs.Prelude.{slice_get, vec_capacity};
+ghost use Rattle.std.specs.declared.vec.Vec.{Vec};
+ghost use Rattle.std.specs.declared.alloc.Global.{Global};
 ghost use Rattle.line_marker.specs.Recording.{latest};
 ghost use Rattle.line_names.specs.Sets.{nobody};
 ghost use Rattle.line_tape.specs.Fit.{IsFitFifo};
@@ -60,6 +63,23 @@ fn start<'s, E, G: Gate>(
     Ok(handle)
 }
 
+/// The others that are back, and the last one at its place, which is kept for it. Where both failed
+/// the fault of the others is told.
+fn with_last(
+    others: Result<Vec<Post>, DrillError>,
+    last: Result<Post, DrillError>,
+) -> Result<Vec<Post>, DrillError>
+    requires { IfOk others (λ posts. length posts.items < vec_capacity posts) }
+    ensures back { IfOk result (λ all. (posts : Vec PostView Global) × (post : PostView)
+        × (others ≡ Ok posts) × (last ≡ Ok post) × (all.items ≡ posts.items ++ post ∷ [])
+        × (vec_capacity all ≡ vec_capacity posts)) }
+    ensures fault { IfErr result (λ e. (others ≡ Err e) ⊎ (IsOk others × (last ≡ Err e))) }
+{
+    let mut all = others?;
+    all.push_reserved(last?);
+    Ok(all)
+}
+
 /// Starts the last worker, then the others, and then joins it. Its place in the list is kept for
 /// it.
 ///
@@ -85,10 +105,8 @@ fn level<'s, E, G: Gate, R: Threads>(
     let script = &scripts[posts.len()];
     let handle = start(scope, post, script, turns, gate)?;
     let others = level(rt, scope, posts, scripts, turns, gate);
-    let back = handle.join(rt);
-    let mut all = others?;
-    all.push_reserved(back?);
-    Ok(all)
+    let last = handle.join(rt);
+    with_last(others, last)
 }
 
 /// All workers do their scripts in a scope, which ends when all its threads have ended.
@@ -148,9 +166,10 @@ fn gather_all(collector: Collector, posts: Vec<Post>) -> Result<Gathered, DrillE
 /// Drills a worker for each script, 1 to `MOST_WORKERS` of them, each in a thread of its own and
 /// over rings of this capacity, and gathers what they did, nobody having failed.
 ///
-/// Before each order a worker asks the gate, at most `turns` times. A Send that finds no free slot,
-/// and a Receive that finds nothing there, are tried at most `turns` times too. After each order
-/// the worker reports. The call returns once all threads have ended, whatever came of them.
+/// Before each order a worker asks the gate, at most `turns` times, and goes on once it is let on.
+/// A Send that finds no free slot, and a Receive that finds nothing there, are tried at most
+/// `turns` times too. After each order the worker reports. The call returns once all threads have
+/// ended, whatever came of them.
 ///
 /// Where several workers could not do an order, the lowest is named. Where a thread could not be
 /// started, that is the answer, whatever came of the others.

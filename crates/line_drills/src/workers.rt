@@ -1,8 +1,8 @@
 //! A worker that does its script.
-ghost use Rattle.std.specs.Prelude.{◌≡◌, ◌∷◌, [], IfOk, IfErr, OnOk};
+ghost use Rattle.std.specs.Prelude.{◌≡◌, ◌<◌, ◌⊎◌, ◌∷◌, [], length, IfOk, IfErr, OnOk};
 ghost use Rattle.line_posts.specs.Posts.{checked_alone, sent_by};
 ghost use Rattle.line_drills.specs.Faults.{HasFailed, IsCause};
-ghost use Rattle.line_drills.specs.Followed.{HasDone, HasReceivedFrom};
+ghost use Rattle.line_drills.specs.Followed.{HasDone, HasReceivedFrom, HasReportedAll, WasLetOn};
 ghost use Rattle.line_drills.specs.declared.orders.Order.TheVariants.{Send, Receive, Check};
 
 use crate::gates::{Gate, passes};
@@ -111,6 +111,8 @@ fn step<G: Gate>(
     order: &Order,
 ) -> Result<(), DrillWhy>
     ensures done { OnOk result (HasDone (order.now ∷ []) post.old post.new) }
+    ensures let_on { OnOk result ((0 < turns) × G.lets gate.now post.old.number k post.old) }
+    ensures reported { OnOk result (HasReportedAll post.new) }
     ensures cause { IfErr result (λ why. IsCause post.old order.now post.new why) }
 {
     if !passes(gate, k, post, turns) {
@@ -131,6 +133,10 @@ pub(crate) fn follow<G: Gate>(
     post: Post,
 ) -> Result<Post, DrillError>
     ensures done { IfOk result (λ back. HasDone script.now.items post back) }
+    ensures let_on { OnOk result (
+        WasLetOn (G.lets gate.now) script.now.items (length script.now.items) post) }
+    ensures reported { IfOk result (λ back.
+        (script.now.items ≡ []) ⊎ HasReportedAll back) }
     ensures failed { IfErr result (λ e. HasFailed script.now.items post e) }
 {
     let mut post = post;

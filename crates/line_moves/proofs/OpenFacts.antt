@@ -16,8 +16,8 @@ use Rattle.line_laws.proofs.RoundLines.{closed_has_check, completed_checked}
 use Rattle.line_tape.proofs.EventLemmas.{tape_same, tape_other}
 use Rattle.line_steps.specs.declared.modes.Mode.TheVariants.{Fifo}
 use Rattle.line_moves.specs.Listed.{ListedRound, channel, channel_table, listed_round}
-use Rattle.line_turns.specs.Turning.{TurningView, IsTurning}
-use Rattle.line_turns.proofs.TurningLemmas.{IsTurning-checked, IsTurning-kept}
+use Rattle.line_colours.specs.Turning.{TurningView, IsTurning}
+use Rattle.line_colours.proofs.TurningLemmas.{IsTurning-checked, IsTurning-kept}
 use Rattle.line_moves.specs.Openings.{OpenView, kept_channel, recorded_channel, recorded_table, marker_at, no_marker, AreMarkers, IsFresh, IsMarkerOf, IsRecording, IsRoundOrNone}
 use Rattle.line_moves.proofs.LinkLemmas.{length-with_event}
 use Rattle.line_moves.proofs.OpeningLemmas.{is_checked_now, markers_written}

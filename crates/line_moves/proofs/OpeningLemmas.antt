@@ -25,8 +25,8 @@ use Rattle.line_laws.proofs.GrowthLemmas.{has_check_push, checked_event, complet
 use Rattle.line_tape.proofs.EventLemmas.{tape_same, tape_other}
 use Rattle.line_laws.proofs.RoundLines.{in_range, checked_has, completed_checked, marker_snapshot}
 use Rattle.line_laws.proofs.SnapshotLemmas.{snapshot_event, snapshot_restarted}
-use Rattle.line_turns.specs.Tables.{between}
-use Rattle.line_turns.proofs.TableLemmas.{between-of}
+use Rattle.line_colours.specs.Tables.{between}
+use Rattle.line_colours.proofs.TableLemmas.{between-of}
 use Rattle.line_steps.specs.declared.modes.Mode.{Mode}
 use Rattle.line_steps.specs.declared.modes.Mode.TheVariants.{Fifo, Unordered}
 use Rattle.line_moves.specs.Listed.{ListedRound, channel, channel_in, channel_table, check_in, is_begun, is_completed, listed_round, stays, IsSnapshotOf, newly_listed}
@@ -34,10 +34,10 @@ use Rattle.line_names.specs.declared.choices.Choice.{Choice}
 use Rattle.line_names.specs.declared.choices.Choice.TheVariants.{Check as AtCheck, Now}
 use Rattle.line_names.specs.Lines.{choice_at}
 use Rattle.line_tape.specs.Restart.{is_kept, restarted_history}
-use Rattle.line_turns.specs.Turning.{TurningView}
+use Rattle.line_colours.specs.Turning.{TurningView}
 use Rattle.line_moves.specs.Openings.{OpenView, left_open, marker_at, first_unlisted, newly_closed, open_number, opened_turning, turning_of, IsLastBegun, IsMarkerOf, IsOnlyOpen, IsRecordingIn, IsRecording, IsRunning}
 use Rattle.line_moves.specs.Worlds.{AreNumbered, AreRounds}
-use Rattle.line_turns.proofs.TurningLemmas.{IsTurning-kept}
+use Rattle.line_colours.proofs.TurningLemmas.{IsTurning-kept}
 use Rattle.line_moves.proofs.LinkLemmas.{length-with_event}
 use Rattle.line_moves.proofs.RecordingLemmas.{or-true, IsMarkerOf-kept}
 

@@ -11,7 +11,7 @@ use Rattle.line_tape.specs.declared.events.Event.{Event}
 use Rattle.line_tape.specs.History.{Process, tape_at}
 use Rattle.line_tape.specs.Rounds.{is_completed_fifo}
 use Rattle.line_laws.proofs.CompletionLemmas.{closed_parts, completed_closed}
-use Rattle.line_turns.specs.Turning.{TurningView}
+use Rattle.line_colours.specs.Turning.{TurningView}
 use Rattle.line_moves.specs.Openings.{channels_in, marker_at, markers_heard, no_marker, AreMarkers, AreToCome, IsFresh, IsRecording}
 use Rattle.line_moves.proofs.RecordingLemmas.{recorded_round, recorded_there}
 

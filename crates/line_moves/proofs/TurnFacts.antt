@@ -18,12 +18,12 @@ use Rattle.line_laws.proofs.CompletionLemmas.{checked_from}
 use Rattle.line_tape.proofs.EventLemmas.{tape_same, tape_other}
 use Rattle.line_laws.proofs.RoundLines.{checked_has}
 use Rattle.line_laws.proofs.RoundTransit.{round_transit}
-use Rattle.line_turns.proofs.ChannelLemmas.{channel-at, IsTable-at}
-use Rattle.line_turns.proofs.CompletedLemmas.{line_choice}
-use Rattle.line_turns.proofs.TurningLemmas.{IsTurning-checked}
-use Rattle.line_turns.specs.Channels.{channels_at}
-use Rattle.line_turns.specs.Tables.{between, IsTable}
-use Rattle.line_turns.specs.Turning.{TurningView, IsLastLine, IsTurning}
+use Rattle.line_colours.proofs.ChannelLemmas.{channel-at, IsTable-at}
+use Rattle.line_colours.proofs.CompletedLemmas.{line_choice}
+use Rattle.line_colours.proofs.TurningLemmas.{IsTurning-checked}
+use Rattle.line_colours.specs.Channels.{channels_at}
+use Rattle.line_colours.specs.Tables.{between, IsTable}
+use Rattle.line_colours.specs.Turning.{TurningView, IsLastLine, IsTurning}
 use Rattle.line_steps.specs.declared.modes.Mode.TheVariants.{Unordered}
 use Rattle.line_moves.specs.Listed.{ListedRound, channel, channel_table, is_begun, is_completed, listed_round, IsSnapshotOf}
 use Rattle.line_moves.specs.Openings.{OpenView, channels_kept, left_open, newly_closed, opened_by, opened_turning, AreChannels, AreInTransit, IsCountedAtRound, IsOpenTurning}

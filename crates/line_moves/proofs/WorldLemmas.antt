@@ -37,12 +37,12 @@ use Rattle.line_steps.specs.declared.modes.Mode.TheVariants.{Fifo, Unordered}
 use Rattle.line_moves.specs.Fates.{fate_of, is_held}
 use Rattle.line_moves.specs.Modes.{IsFitIn, copies_in, items_in}
 use Rattle.line_moves.specs.Queues.{with_on_each, with_on_others, taken_off}
-use Rattle.line_turns.specs.Tables.{between, with_list, IsTable}
+use Rattle.line_colours.specs.Tables.{between, with_list, IsTable}
 use Rattle.line_moves.specs.Restarts.{restarted_copies}
 use Rattle.line_moves.specs.Worlds.{IsItemOf, message_of, messages_at, names_on, AreQueues, HoldMessages, IsLinked, IsMessage, IsWorld}
 use Rattle.line_moves.proofs.FateLemmas.{held-true}
 use Rattle.line_moves.proofs.LinkLemmas.{length-with_event, first_rest, IsOrdered-check, IsOrdered-mark, IsOrdered-round, IsOrdered-send, IsOrdered-take}
-use Rattle.line_turns.proofs.TableLemmas.{between-other, between-same, table_of-all, IsTable-written}
+use Rattle.line_colours.proofs.TableLemmas.{between-other, between-same, table_of-all, IsTable-written}
 
 -- the history fits
 pub IsFit-world : (mode : Mode) (history : List Process) (queues : List (List (List Item))) → IsWorld mode history queues → IsFitIn mode history

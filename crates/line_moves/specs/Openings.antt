@@ -13,8 +13,8 @@ use Rattle.line_tape.specs.History.{Process, tape_at}
 use Rattle.line_tape.specs.Colours.{is_completed_unordered}
 use Rattle.line_tape.specs.Rounds.{has_check_of, has_mark_of, channel_on, round_line}
 use Rattle.line_tape.specs.Transit.{in_transit_between}
-use Rattle.line_turns.specs.Tables.{between, IsTable}
-use Rattle.line_turns.specs.Turning.{TurningView, IsLastLine, IsTurning}
+use Rattle.line_colours.specs.Tables.{between, IsTable}
+use Rattle.line_colours.specs.Turning.{TurningView, IsLastLine, IsTurning}
 use Rattle.line_steps.specs.declared.modes.Mode.{Mode}
 use Rattle.line_steps.specs.declared.modes.Mode.TheVariants.{Fifo, Unordered}
 use Rattle.line_moves.specs.Listed.{ListedRound, channel_table, is_begun, is_completed}

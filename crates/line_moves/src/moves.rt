@@ -17,7 +17,7 @@ ghost use Rattle.line_steps.specs.declared.modes.Mode.TheVariants.{Fifo};
 ghost use Rattle.line_moves.specs.Moves.{next_check};
 ghost use Rattle.line_moves.specs.Openings.{open_number, IsOnlyOpen};
 ghost use Rattle.line_moves.specs.Queues.{taken_off};
-ghost use Rattle.line_turns.specs.Tables.{between, with_list, IsTable};
+ghost use Rattle.line_colours.specs.Tables.{between, with_list, IsTable};
 
 use crate::links::Links;
 use crate::openings::{OpenRound, note};

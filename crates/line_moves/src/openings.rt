@@ -14,9 +14,9 @@ ghost use Rattle.line_moves.specs.Fates.{is_forced};
 use crate::listings::Listing;
 use crate::recorders::Recorder;
 use crate::rounds::Round;
+use line_colours::Turning;
 use line_names::{MOST_PROCESSES, MsgName, ProcId};
 use line_tape::{History, LAST_ROUND};
-use line_turns::Turning;
 use std::alloc::{AllocError, Global};
 use std::marker::Model;
 

@@ -10,8 +10,8 @@ ghost use Rattle.line_tape.specs.History.{tape_at, with_event};
 ghost use Rattle.line_catalogue.specs.Views.{catalogue_room_at};
 ghost use Rattle.line_tape.specs.Colours.{colour};
 ghost use Rattle.line_tape.specs.Rounds.{has_check_of};
-ghost use Rattle.line_turns.specs.Kept.{AreTurned};
-ghost use Rattle.line_turns.specs.Turning.{IsTurning};
+ghost use Rattle.line_colours.specs.Kept.{AreTurned};
+ghost use Rattle.line_colours.specs.Turning.{IsTurning};
 ghost use Rattle.line_steps.specs.declared.modes.Mode.TheVariants.{Fifo};
 ghost use Rattle.line_moves.specs.Fates.{is_forced, marker_events};
 ghost use Rattle.line_moves.specs.Listed.{IsSnapshotOf};
@@ -19,7 +19,7 @@ ghost use Rattle.line_moves.specs.Moves.{with_events, next_check};
 ghost use Rattle.line_moves.specs.Openings.{open_number, IsCountedAtRound, IsOnlyOpen};
 ghost use Rattle.line_moves.specs.Openings.{IsOpenTurning};
 ghost use Rattle.line_moves.specs.Openings.{IsRecording, IsListedOrOpen};
-ghost use Rattle.line_turns.specs.Tables.{between};
+ghost use Rattle.line_colours.specs.Tables.{between};
 ghost use Rattle.line_moves.specs.Worlds.{IsWorld};
 
 use crate::counts::count_channels;
@@ -28,9 +28,9 @@ use crate::listings::Listing;
 use crate::openings::{OpenRound, hear};
 use crate::rounds::Round;
 use line_catalogue::Catalogue;
+use line_colours::{Colours, SharedChannels, Turning};
 use line_names::ProcId;
 use line_tape::{Event, Item, LAST_ROUND, MOST_EVENTS, MOST_STATE, State};
-use line_turns::{Colours, SharedChannels, Turning};
 use std::alloc::{AllocError, Global};
 
 /// Begins the round of markers after the last one (Chandy and Lamport, ACM TOCS 3(1), 1985): the

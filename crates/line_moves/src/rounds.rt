@@ -6,7 +6,7 @@ ghost use Rattle.line_tape.specs.History.{Process};
 ghost use Rattle.line_tape.specs.Restart.{is_kept};
 ghost use Rattle.line_tape.specs.Colours.{is_completed_unordered};
 ghost use Rattle.line_tape.specs.Rounds.{check_line, is_completed_fifo, round_line};
-ghost use Rattle.line_turns.specs.Turning.{IsTurning};
+ghost use Rattle.line_colours.specs.Turning.{IsTurning};
 ghost use Rattle.line_steps.specs.declared.modes.Mode.TheVariants.{Fifo, Unordered};
 ghost use Rattle.line_moves.specs.Listed.{check_in, channel_in, listed_round, stays, IsSnapshotOf};
 ghost use Rattle.line_moves.specs.Listings.{IsBelow};
@@ -16,9 +16,9 @@ ghost use Rattle.line_moves.specs.Openings.{AreByProcess, AreInTransit, AreMarke
 ghost use Rattle.line_moves.specs.Openings.{IsRecording};
 
 use crate::recorders::Recorder;
+use line_colours::{SharedChannels, Turning};
 use line_names::{Choice, Line, MOST_PROCESSES, MsgName, ProcId};
 use line_tape::History;
-use line_turns::{SharedChannels, Turning};
 use std::alloc::Global;
 use std::marker::Model;
 

@@ -1,5 +1,7 @@
 //! Sweeps over the processes, each of which is lowered until it has no orphan.
-ghost use Rattle.std.specs.Prelude.{◌≡◌, ◌<◌, ◌≤◌, ◌+◌, false, length, vec_len, OnOk, IfOk};
+ghost use Rattle.std.specs.Prelude.{◌≡◌, ◌<◌, ◌≤◌, ◌+◌, ◌++◌, ◌∷◌, [], ℕ, suc, true, false};
+ghost use Rattle.std.specs.Prelude.{length, vec_len, OnOk, IfOk};
+ghost use Rattle.line_names.specs.Sets.{is_member};
 ghost use Rattle.line_names.specs.Lines.{choice_at};
 ghost use Rattle.line_names.specs.Order.{IsNoLater};
 ghost use Rattle.line_tape.specs.Chain.{latest_choice, first_ceilings, IsChain, IsLed};
@@ -9,6 +11,7 @@ ghost use Rattle.line_tape.specs.Survival.{IsLatest};
 ghost use Rattle.line_tape.specs.Transit.{in_transit};
 ghost use Rattle.line_plan.specs.Search.{IsMoved, IsSameBut, AreSentBelow, AreClean};
 ghost use Rattle.line_plan.specs.Search.{AreHearersDirty, AreStillDirty};
+ghost use Rattle.line_plan.specs.Sweeps.{AreOfNextSweep, HasPassed, sweeps_with_entries};
 ghost use Rattle.line_vectors.specs.Reach.{sents_of};
 
 use crate::dirty::Dirty;
@@ -79,6 +82,8 @@ fn pass_over(
         (IsLed catalogue.now.processes catalogue.now.marks failed.now certificate.new.items
         line.new) }
     ensures longer { OnOk result (vec_len certificate.new ≡ vec_len certificate.old + 1) }
+    ensures entry { OnOk result (certificate.new.items ≡ certificate.old.items
+        ++ record { at = at; choice = choice_at line.old at; message = message } ∷ []) }
     ensures lower { OnOk result
         (height catalogue.now.processes line.new < height catalogue.now.processes line.old) }
     ensures alone { OnOk result (IsSameBut line.old line.new at) }
@@ -126,6 +131,8 @@ fn visit(
     ensures moved { IfOk result (λ lowered.
         IsMoved catalogue.now.processes line.old (vec_len certificate.old) lowered line.new
         (vec_len certificate.new)) }
+    ensures passed { IfOk result
+        (λ lowered. HasPassed at lowered certificate.old.items certificate.new.items) }
 {
     let mut lowered = false;
     let mut clear = 0;
@@ -171,6 +178,12 @@ fn visit_dirty(
     ensures moved { IfOk result (λ lowered.
         IsMoved catalogue.now.processes line.old (vec_len certificate.old) lowered line.new
         (vec_len certificate.new)) }
+    ensures passed { IfOk result
+        (λ lowered. HasPassed at lowered certificate.old.items certificate.new.items) }
+    ensures begun { IfOk result (λ lowered. lowered ≡ true → is_member dirty.old at ≡ true) }
+    ensures visited { OnOk result (is_member dirty.new at ≡ false) }
+    ensures fewer { IfOk result (λ lowered. lowered ≡ false → (q : ℕ)
+        → is_member dirty.new q ≡ true → is_member dirty.old q ≡ true) }
 {
     if !dirty.has(at) {
         return Ok(false);
@@ -198,6 +211,8 @@ fn sweep(
         certificate.old.items line.old }
     requires sent { sent.old ≡ sents_of catalogue.now.processes line.old }
     requires clean { AreClean catalogue.now.processes line.old dirty.old }
+    requires due { AreOfNextSweep (length catalogue.now.processes) certificate.old.items
+        dirty.old }
     ensures led { OnOk result
         (IsLed catalogue.now.processes catalogue.now.marks failed.now certificate.new.items
         line.new) }
@@ -208,6 +223,13 @@ fn sweep(
     ensures moved { IfOk result (λ lowered.
         IsMoved catalogue.now.processes line.old (vec_len certificate.old) lowered line.new
         (vec_len certificate.new)) }
+    ensures due { OnOk result
+        (AreOfNextSweep (length catalogue.now.processes) certificate.new.items dirty.new) }
+    ensures same { IfOk result
+        (λ lowered. lowered ≡ false → certificate.new.items ≡ certificate.old.items) }
+    ensures swept { IfOk result (λ lowered. lowered ≡ true
+        → sweeps_with_entries certificate.new.items
+        ≡ suc (sweeps_with_entries certificate.old.items)) }
 {
     let n = catalogue.n();
     let mut lowered = false;
@@ -257,6 +279,8 @@ pub fn plan(alloc: Global, catalogue: &Catalogue, failed: &ProcSet) -> Result<Pl
         plan.line) }
     ensures some_sweep { IfOk result (λ plan. 1 ≤ plan.sweeps) }
     ensures few_sweeps { IfOk result (λ plan. plan.sweeps ≤ vec_len plan.certificate + 1) }
+    ensures sweeps { IfOk result
+        (λ plan. plan.sweeps ≡ sweeps_with_entries plan.certificate.items + 1) }
     ensures replays { IfOk result
         (λ plan. plan.replays.items ≡ in_transit catalogue.now.processes plan.line) }
 {

@@ -25,6 +25,7 @@ pub record CollectorView : Type 0 where
   pub seen : List (List Event)
   pub capacity : ℕ
 
+-- the collector with these parts
 abbrev pub collector_of : List Process → List Process → MarksView → List (End Event)
     → List (List Event) → ℕ → CollectorView
 collector_of opening processes marks lines seen capacity = record {

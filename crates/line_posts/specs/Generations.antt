@@ -8,10 +8,11 @@ use Rattle.line_posts.specs.Collected.{CollectorView}
 use Rattle.line_posts.specs.Parcels.{items_of_packets, items_of_parcels}
 use Rattle.line_posts.specs.Posts.{PostView, incarnation_of_post}
 
--- the history of the workers' own tapes
+-- a worker's own tape, in its present incarnation
 abbrev pub own_process : PostView → Process
 own_process post = record { incarnation = incarnation_of_post post; tape = post.tape }
 
+-- the history of the workers' own tapes
 abbrev pub own_history : List PostView → List Process
 own_history posts = map own_process posts
 

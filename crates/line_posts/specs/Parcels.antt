@@ -19,6 +19,7 @@ abbrev pub item_of : ℕ → Parcel → Item
 item_of p (Message packet) = item_message (packet_name p packet)
 item_of p (Marker round) = item_marker round
 
+-- what is sent and received by these parcels from process p
 abbrev pub items_of_parcels : ℕ → List Parcel → List Item
 items_of_parcels p parcels = map (item_of p) parcels
 
@@ -26,6 +27,7 @@ items_of_parcels p parcels = map (item_of p) parcels
 abbrev pub parcels_of : List Packet → List Parcel
 parcels_of packets = map (λ packet. Message packet) packets
 
+-- what is sent and received by these packets from process p
 abbrev pub items_of_packets : ℕ → List Packet → List Item
 items_of_packets p packets = items_of_parcels p (parcels_of packets)
 

@@ -22,7 +22,7 @@ use Rattle.line_claims.proofs.SpellLemmas.{plain_again}
 use Rattle.line_claims.proofs.VersionLemmas.{earliest_has_room, earliest_is_known}
 use Rattle.line_claims.proofs.WrittenLemmas.{byte_at}
 use Rattle.line_scripts.specs.declared.commands.Command.{Command}
-use Rattle.line_scripts.specs.declared.commands.Command.TheVariants.{Bundle, Do, History, Refused, Rounds}
+use Rattle.line_scripts.specs.declared.commands.Command.TheVariants.{Answer, Bundle, Do, History, Live, Plan, Refused, Rounds}
 use Rattle.line_scripts.specs.Ranges.{IsCommandInRange, IsScriptInRange, IsSetAmong, IsWithCheck, IsWithState}
 use Rattle.line_scripts.specs.Records.{command_record, mode_text, script_records, world_record}
 use Rattle.line_scripts.specs.Scripts.{Script, command_in, commands_from, deliver_of, mode_named, pick, script_of, script_of_text, send_of, with_check, with_failed, with_state, world_of}
@@ -78,6 +78,9 @@ command_again n (Do (Recover failed)) few fit = failed_set n (codes "recover") (
 command_again n Rounds few fit = refl
 command_again n History few fit = refl
 command_again n (Bundle failed) few fit = failed_set n (codes "bundle") Bundle failed few fit
+command_again n (Plan failed) few fit = failed_set n (codes "plan") Plan failed few fit
+command_again n Live few fit = refl
+command_again n (Answer failed) few fit = failed_set n (codes "answer") Answer failed few fit
 command_again n (Refused code) few fit = absurd fit
 
 commands_again : (n i : ℕ) (cs : List Command) → n ≤ MOST_PROCESSES → AllByRecursion (IsCommandInRange n) cs → commands_from n i (map (command_record n) cs) ≡ Ok cs
@@ -122,6 +125,9 @@ command_is_written n (Do (Recover failed)) few fit = set_is_written n failed few
 command_is_written n Rounds few fit = refl
 command_is_written n History few fit = refl
 command_is_written n (Bundle failed) few fit = set_is_written n failed few
+command_is_written n (Plan failed) few fit = set_is_written n failed few
+command_is_written n Live few fit = refl
+command_is_written n (Answer failed) few fit = set_is_written n failed few
 command_is_written n (Refused code) few fit = absurd fit
 
 commands_are_written : (n : ℕ) (cs : List Command) → n ≤ MOST_PROCESSES → AllByRecursion (IsCommandInRange n) cs → list_all is_written (map (command_record n) cs) ≡ true

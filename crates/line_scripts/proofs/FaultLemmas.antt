@@ -18,7 +18,7 @@ use Rattle.line_claims.specs.Numbers.{numbers, plain}
 use Rattle.line_claims.specs.Reads.{at_record}
 use Rattle.line_claims.specs.Versions.{most_in}
 use Rattle.line_scripts.specs.declared.commands.Command.{Command}
-use Rattle.line_scripts.specs.declared.commands.Command.TheVariants.{Bundle, Do, History, Rounds}
+use Rattle.line_scripts.specs.declared.commands.Command.TheVariants.{Answer, Bundle, Do, History, Live, Plan, Rounds}
 use Rattle.line_scripts.specs.Pieces.{begun_of, begun_on, with_commands}
 use Rattle.line_scripts.specs.Reads.{IsOfScript}
 use Rattle.line_scripts.specs.Scripts.{Script, command_in, commands_from, deliver_of, mode_named, pick, script_of, send_of, with_check, with_failed, with_state, world_of}
@@ -148,7 +148,10 @@ command_low n r =
     (one_low (bytes_eq (field r 0) (codes "recover")) (with_failed (λ failed. Do (Recover failed)) n r) _ (failed_low (λ failed. Do (Recover failed)) n r)
     (one_low (bytes_eq (field r 0) (codes "rounds")) (alone Rounds r) _ (alone_low Rounds r)
     (one_low (bytes_eq (field r 0) (codes "history")) (alone History r) _ (alone_low History r)
-    (one_low (bytes_eq (field r 0) (codes "bundle")) (with_failed Bundle n r) (Err faults.BadRecord) (failed_low Bundle n r) low_record))))))))))
+    (one_low (bytes_eq (field r 0) (codes "bundle")) (with_failed Bundle n r) _ (failed_low Bundle n r)
+    (one_low (bytes_eq (field r 0) (codes "plan")) (with_failed Plan n r) _ (failed_low Plan n r)
+    (one_low (bytes_eq (field r 0) (codes "live")) (alone Live r) _ (alone_low Live r)
+    (one_low (bytes_eq (field r 0) (codes "answer")) (with_failed Answer n r) (Err faults.BadRecord) (failed_low Answer n r) low_record)))))))))))))
 
 mode_low : (text : List ℕ) → OnlyLow (mode_named text)
 mode_low text =

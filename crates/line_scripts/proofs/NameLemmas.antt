@@ -28,6 +28,9 @@ named_otherwise n r other =
       other names.Rounds,
       other names.History,
       other names.Bundle,
+      other names.Plan,
+      other names.Live,
+      other names.Answer,
     ) refl
 
 -- such a record spells no command

@@ -8,7 +8,7 @@ use Rattle.line_steps.specs.declared.steps.Step.TheVariants.{Damage, Bar, Recove
 use Rattle.line_claims.specs.Ranges.{AreBytes}
 use Rattle.line_scripts.specs.declared.commands.Command.{Command}
 use Rattle.line_scripts.specs.declared.commands.Command.TheVariants.{Bundle, Do, History, Refused}
-use Rattle.line_scripts.specs.declared.commands.Command.TheVariants.{Rounds}
+use Rattle.line_scripts.specs.declared.commands.Command.TheVariants.{Answer, Live, Plan, Rounds}
 use Rattle.line_scripts.specs.Scripts.{Script}
 
 -- a set of processes, of the first n
@@ -38,6 +38,9 @@ IsCommandInRange n (Do (Recover failed)) = IsSetAmong n failed
 IsCommandInRange n Rounds = Unit {0}
 IsCommandInRange n History = Unit {0}
 IsCommandInRange n (Bundle failed) = IsSetAmong n failed
+IsCommandInRange n (Plan failed) = IsSetAmong n failed
+IsCommandInRange n Live = Unit {0}
+IsCommandInRange n (Answer failed) = IsSetAmong n failed
 IsCommandInRange n (Refused code) = ⊥
 
 -- a script

@@ -12,7 +12,7 @@ use Rattle.line_claims.specs.Texts.{records_in}
 use Rattle.line_claims.specs.Versions.{earliest_version}
 use Rattle.line_scripts.specs.declared.commands.Command.{Command}
 use Rattle.line_scripts.specs.declared.commands.Command.TheVariants.{Bundle, Do, History, Refused}
-use Rattle.line_scripts.specs.declared.commands.Command.TheVariants.{Rounds}
+use Rattle.line_scripts.specs.declared.commands.Command.TheVariants.{Answer, Live, Plan, Rounds}
 use Rattle.line_scripts.specs.Scripts.{Script}
 
 -- how links deliver
@@ -39,6 +39,9 @@ command_record n (Do (Recover failed)) = codes "recover" ∷ map decimal (member
 command_record n Rounds = codes "rounds" ∷ []
 command_record n History = codes "history" ∷ []
 command_record n (Bundle failed) = codes "bundle" ∷ map decimal (members n failed)
+command_record n (Plan failed) = codes "plan" ∷ map decimal (members n failed)
+command_record n Live = codes "live" ∷ []
+command_record n (Answer failed) = codes "answer" ∷ map decimal (members n failed)
 command_record n (Refused code) = []
 
 -- a script, in the earliest version that has room for its processes

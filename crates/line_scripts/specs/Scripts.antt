@@ -18,7 +18,7 @@ use Rattle.line_steps.specs.declared.steps.Step.TheVariants.{Send, Deliver, Chec
 use Rattle.line_steps.specs.declared.steps.Step.TheVariants.{Damage, Bar, Recover}
 use Rattle.line_scripts.specs.declared.commands.Command.{Command}
 use Rattle.line_scripts.specs.declared.commands.Command.TheVariants.{Bundle, Do, History, Refused}
-use Rattle.line_scripts.specs.declared.commands.Command.TheVariants.{Rounds}
+use Rattle.line_scripts.specs.declared.commands.Command.TheVariants.{Answer, Live, Plan, Rounds}
 use Rattle.line_claims.specs.declared.faults.TextFault.{TextFault}
 use Rattle.line_claims.specs.declared.versions.TheConstants.{LAST_VERSION}
 use Rattle.line_claims.specs.Numbers.{numbers, plain}
@@ -83,7 +83,8 @@ with_state step n = two plain hex (λ at state. Ok (below n (at ∷ []) (Do (ste
 unfoldable pub with_check : (ℕ → ℕ → Step) → ℕ → Record → Result Command Fault
 with_check step n = two plain plain (λ at check. Ok (below n (at ∷ []) (Do (step at check))))
 
--- recover,P,.. or bundle,P,..: a command of processes, of none where no field names one
+-- recover,P,.., bundle,P,.., plan,P,.. or answer,P,..: a command of processes, of none where no
+-- field names one
 unfoldable pub with_failed : (List Bool → Command) → ℕ → Record → Result Command Fault
 with_failed command n r =
     numbers (drop 1 r) >>= λ failed. Ok (below n failed (command (fold with_member nobody failed)))
@@ -103,6 +104,9 @@ command_in n r =
     else if bytes_eq (field r 0) (codes "rounds") then alone Rounds r
     else if bytes_eq (field r 0) (codes "history") then alone History r
     else if bytes_eq (field r 0) (codes "bundle") then with_failed Bundle n r
+    else if bytes_eq (field r 0) (codes "plan") then with_failed Plan n r
+    else if bytes_eq (field r 0) (codes "live") then alone Live r
+    else if bytes_eq (field r 0) (codes "answer") then with_failed Answer n r
     else Err faults.BadRecord
 
 -- the commands of the records from the i-th on

@@ -2,7 +2,7 @@
 use Rattle.line_steps.specs.Shown as steps
 use Rattle.line_scripts.specs.declared.commands.Command.{Command}
 use Rattle.line_scripts.specs.declared.commands.Command.TheVariants.{Bundle, Do, History, Refused}
-use Rattle.line_scripts.specs.declared.commands.Command.TheVariants.{Rounds}
+use Rattle.line_scripts.specs.declared.commands.Command.TheVariants.{Answer, Live, Plan, Rounds}
 use Rattle.line_scripts.specs.declared.commands.CommandRef.{CommandRef}
 use Rattle.line_scripts.specs.declared.commands.CommandRef.TheVariants as lent
 
@@ -12,6 +12,9 @@ command_of_ref (lent.Do step) = Do (steps.step_of_ref step)
 command_of_ref lent.Rounds = Rounds
 command_of_ref lent.History = History
 command_of_ref (lent.Bundle failed) = Bundle failed.now
+command_of_ref (lent.Plan failed) = Plan failed.now
+command_of_ref lent.Live = Live
+command_of_ref (lent.Answer failed) = Answer failed.now
 command_of_ref (lent.Refused code) = Refused code
 
 -- the bytes lent as the body of a message are no more than a body has
@@ -20,4 +23,7 @@ HasShortBodyInStep (lent.Do step) = steps.HasShortBody step
 HasShortBodyInStep lent.Rounds = Unit {0}
 HasShortBodyInStep lent.History = Unit {0}
 HasShortBodyInStep (lent.Bundle failed) = Unit {0}
+HasShortBodyInStep (lent.Plan failed) = Unit {0}
+HasShortBodyInStep lent.Live = Unit {0}
+HasShortBodyInStep (lent.Answer failed) = Unit {0}
 HasShortBodyInStep (lent.Refused code) = Unit {0}

@@ -9,8 +9,8 @@ ghost use Rattle.line_scripts.specs.Scripts as spec;
 
 use crate::keeping::Kept;
 use crate::kinds::{
-    deliver_of, kept_bar, kept_begin, kept_bundle, kept_checkpoint, kept_damage, kept_history,
-    kept_recover, kept_rounds, kept_turn, send_of,
+    deliver_of, kept_answer, kept_bar, kept_begin, kept_bundle, kept_checkpoint, kept_damage,
+    kept_history, kept_live, kept_plan, kept_recover, kept_rounds, kept_turn, send_of,
 };
 use crate::names::{Name, name_in};
 use line_claims::{LAST_VERSION, most_in, plain, want};
@@ -31,6 +31,14 @@ pub enum Command {
     /// A check text of the machine's history, damage and bars, with the plan for these failed
     /// processes.
     Bundle(ProcSet),
+    /// What a recovery would be answered if these processes failed now. Nothing changes.
+    Plan(ProcSet),
+    /// What a recovery would be answered if every process failed now. Nothing changes, and no later
+    /// plan is before this one while its checks are neither damaged nor barred.
+    Live,
+    /// A check text of the machine's history, damage and bars, with all that a recovery would be
+    /// answered if these processes failed now.
+    Answer(ProcSet),
     /// Nothing: a process isn't below the number of processes, or a body is too long. The number of
     /// the refusal tells which.
     Refused(u32),
@@ -49,6 +57,14 @@ pub enum CommandRef<'a> {
     /// A check text of the machine's history, damage and bars, with the plan for these failed
     /// processes.
     Bundle(&'a ProcSet),
+    /// What a recovery would be answered if these processes failed now. Nothing changes.
+    Plan(&'a ProcSet),
+    /// What a recovery would be answered if every process failed now. Nothing changes, and no later
+    /// plan is before this one while its checks are neither damaged nor barred.
+    Live,
+    /// A check text of the machine's history, damage and bars, with all that a recovery would be
+    /// answered if these processes failed now.
+    Answer(&'a ProcSet),
     /// Nothing: a process isn't below the number of processes, or a body is too long. The number of
     /// the refusal tells which.
     Refused(u32),
@@ -116,5 +132,8 @@ pub(crate) fn command_in(
         Name::Rounds => kept_rounds(row),
         Name::History => kept_history(row),
         Name::Bundle => kept_bundle(alloc, n, row),
+        Name::Plan => kept_plan(alloc, n, row),
+        Name::Live => kept_live(row),
+        Name::Answer => kept_answer(alloc, n, row),
     }
 }

@@ -58,6 +58,9 @@ pub(crate) enum Kept {
     Rounds,
     History,
     Bundle(Box<ProcSet>),
+    Plan(Box<ProcSet>),
+    Live,
+    Answer(Box<ProcSet>),
 }
 
 const _: () = prove!(size_of::<Kept>() == 16);
@@ -107,6 +110,9 @@ pub(crate) fn long_of(kept: &Kept) -> usize
         Kept::Rounds => 0,
         Kept::History => 0,
         Kept::Bundle(_) => 0,
+        Kept::Plan(_) => 0,
+        Kept::Live => 0,
+        Kept::Answer(_) => 0,
     }
 }
 
@@ -161,5 +167,8 @@ pub(crate) fn lent<'a>(kept: &'a Kept, own: &'a [u8]) -> CommandRef<'a>
         Kept::Rounds => CommandRef::Rounds,
         Kept::History => CommandRef::History,
         Kept::Bundle(failed) => CommandRef::Bundle(failed),
+        Kept::Plan(failed) => CommandRef::Plan(failed),
+        Kept::Live => CommandRef::Live,
+        Kept::Answer(failed) => CommandRef::Answer(failed),
     }
 }

@@ -311,6 +311,36 @@ pub(crate) fn kept_bundle(alloc: Global, n: u32, row: &FieldRow<'_>) -> Result<K
     }
 }
 
+/// The command of a `plan` record, which carries no bytes.
+#[inline(never)]
+pub(crate) fn kept_plan(alloc: Global, n: u32, row: &FieldRow<'_>) -> Result<Kept, ReadError>
+    requires { n ≤ MOST_PROCESSES }
+    ensures exact { (bytes : List ℕ) → Gives (λ kept. with_bytes kept bytes) result
+        (spec.with_failed Command.Plan n row.now) }
+    ensures long { IfOk result (λ kept. long_of kept ≡ 0) }
+    ensures short { IfOk result HasShortMessage }
+{
+    match with_failed(alloc, n, row)? {
+        Some(failed) => Ok(Kept::Plan(failed)),
+        None => Ok(refused(Fault::NoSuchProcess, 0)),
+    }
+}
+
+/// The command of an `answer` record, which carries no bytes.
+#[inline(never)]
+pub(crate) fn kept_answer(alloc: Global, n: u32, row: &FieldRow<'_>) -> Result<Kept, ReadError>
+    requires { n ≤ MOST_PROCESSES }
+    ensures exact { (bytes : List ℕ) → Gives (λ kept. with_bytes kept bytes) result
+        (spec.with_failed Command.Answer n row.now) }
+    ensures long { IfOk result (λ kept. long_of kept ≡ 0) }
+    ensures short { IfOk result HasShortMessage }
+{
+    match with_failed(alloc, n, row)? {
+        Some(failed) => Ok(Kept::Answer(failed)),
+        None => Ok(refused(Fault::NoSuchProcess, 0)),
+    }
+}
+
 /// The command of a `rounds` record, which has no other field.
 #[inline(never)]
 #[tactic(auto, unfolding(line_fields::specs::Shapes::alone))]
@@ -335,4 +365,17 @@ pub(crate) fn kept_history(row: &FieldRow<'_>) -> Result<Kept, ReadError>
 {
     want(row.len() == 1, Fault::BadRecord)?;
     Ok(Kept::History)
+}
+
+/// The command of a `live` record, which has no other field.
+#[inline(never)]
+#[tactic(auto, unfolding(line_fields::specs::Shapes::alone))]
+pub(crate) fn kept_live(row: &FieldRow<'_>) -> Result<Kept, ReadError>
+    ensures exact { (bytes : List ℕ) → Gives (λ kept. with_bytes kept bytes) result
+        (alone Command.Live row.now) }
+    ensures long { IfOk result (λ kept. long_of kept ≡ 0) }
+    ensures short { IfOk result HasShortMessage }
+{
+    want(row.len() == 1, Fault::BadRecord)?;
+    Ok(Kept::Live)
 }

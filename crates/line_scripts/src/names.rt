@@ -18,6 +18,9 @@ pub(crate) enum Name {
     Rounds,
     History,
     Bundle,
+    Plan,
+    Live,
+    Answer,
 }
 
 /// The name that a field spells, if it spells one. It is put into its caller, where each name then
@@ -39,6 +42,9 @@ pub(crate) fn name_in(field: &[u8]) -> Option<Name>
         b"rounds" => Some(Name::Rounds),
         b"history" => Some(Name::History),
         b"bundle" => Some(Name::Bundle),
+        b"plan" => Some(Name::Plan),
+        b"live" => Some(Name::Live),
+        b"answer" => Some(Name::Answer),
         _ => None,
     }
 }

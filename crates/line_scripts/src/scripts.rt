@@ -126,6 +126,9 @@ fn all_of(alloc: Global, mut commands: Commands) -> Result<Vec<Command>, AllocEr
             CommandRef::Rounds => Command::Rounds,
             CommandRef::History => Command::History,
             CommandRef::Bundle(failed) => Command::Bundle(*failed),
+            CommandRef::Plan(failed) => Command::Plan(*failed),
+            CommandRef::Live => Command::Live,
+            CommandRef::Answer(failed) => Command::Answer(*failed),
             CommandRef::Refused(code) => Command::Refused(code),
         };
         all.push(own)?;

@@ -1,4 +1,4 @@
--- Inputs in pieces, and inputs that are scripts.
+-- Inputs that are scripts, and records with a fault.
 use Rattle.std.proofs.Common.{◌≡◌, ◌≢◌, ℕ, ◌+◌, Bool, true, false, cond, List, [], ◌∷◌, ◌++◌, length, refl, sym, ap, ◌∙◌, subst}
 use Rattle.std.specs.Prelude.{Option, None, Some, Result, Ok, Err, map, if◌then◌else◌}
 use Rattle.std.specs.List.{flat_map}
@@ -6,6 +6,11 @@ use Rattle.std.proofs.lemmas.List.{length-replicate}
 use Rattle.line_answers.specs.Answers.{CommandAnswer, Tells, TellsAll, is_refused, command_answer_records}
 use Rattle.line_claims.specs.declared.faults.TextFault.{TextFault}
 use Rattle.line_claims.specs.Reads.{at_record}
+use Rattle.line_conversations.specs.declared.outcomes.Outcome.{Outcome}
+use Rattle.line_conversations.specs.declared.outcomes.Outcome.TheVariants as outcomes
+use Rattle.line_conversations.specs.Conversations.{records_of}
+use Rattle.line_conversations.specs.Rules.{HearsAll, worse, worst}
+use Rattle.line_conversations.proofs.HeardLemmas.{worse_faulted}
 use Rattle.line_fields.specs.declared.faults.Fault.{Fault}
 use Rattle.line_fields.specs.declared.faults.ReadError.{ReadError}
 use Rattle.line_fields.specs.Bytes.{is_input_text}
@@ -14,65 +19,9 @@ use Rattle.line_fields.specs.Records.{Record, records_of_text}
 use Rattle.line_steps.specs.declared.modes.Mode.{Mode}
 use Rattle.line_scripts.specs.declared.commands.Command.{Command}
 use Rattle.line_scripts.specs.Scripts.{Script, command_in, commands_from, script_of, script_of_text, world_of}
-use Rattle.line_service.specs.declared.outcomes.Outcome.{Outcome}
-use Rattle.line_service.specs.declared.outcomes.Outcome.TheVariants as outcomes
-use Rattle.line_service.specs.Lines.{Pending, pending_after}
-use Rattle.line_service.specs.Pieces.{IsRunOf, ServesBoth}
-use Rattle.line_service.specs.Services.{ServiceAnswer, Began, Faulted, Replied, Hears, HearsAll, Serves, Standing, service_answer_records, outcome_of, records_ending_in, records_of, worse, worst}
-use Rattle.line_service.proofs.HeardLemmas.{HearsAll-both, worse_faulted, worst-append}
+use Rattle.line_service.specs.Services.{ServiceAnswer, Began, Faulted, Replied, Hears, IsRunOf, service_answer_records, outcome_of, service_rules}
 use Rattle.line_service.proofs.LengthLemmas.{length_told}
-use Rattle.line_service.proofs.LineLemmas.{pending_both, records_both}
 use Rattle.line_world.specs.Machine.{Machine, start}
-
--- ---- pieces
-
--- the answers to some records and to more: those to the first, and the machine between
-record IsParted (old : Option Machine) (records more : List (Result Record Fault)) (answers : List ServiceAnswer) (new : Option Machine) : Type 0 where
-  first : List ServiceAnswer
-  rest : List ServiceAnswer
-  all : answers ≡ first ++ rest
-  mid : Option Machine
-  before : HearsAll old records first mid
-  after : HearsAll mid more rest new
-
-parted : (old : Option Machine) (records more : List (Result Record Fault)) (answers : List ServiceAnswer) (new : Option Machine) → HearsAll old (records ++ more) answers new → IsParted old records more answers new
-parted old [] more answers new h = record { first = []; rest = answers; all = refl; mid = old; before = refl; after = h }
-parted old (r ∷ records) more [] new h = absurd h
-parted old (r ∷ records) more (one ∷ answers) new (next, is, h) =
-    let k = parted next records more answers new h in
-    record { first = one ∷ k.first; rest = k.rest; all = ap (λ (rest : List ServiceAnswer). one ∷ rest) k.all; mid = k.mid; before = (next, is, k.before); after = k.after }
-
-pub in_pieces : (old new : Standing) (bytes more : List ℕ) (answers : List ServiceAnswer) → Serves old (bytes ++ more) answers new → ServesBoth old bytes more answers new
-in_pieces old new bytes more answers h =
-    let k = parted old.machine (records_ending_in old.pending bytes) (records_ending_in (pending_after old.pending bytes) more) answers new.machine
-    (subst (λ (rs : List (Result Record Fault)). HearsAll old.machine rs answers new.machine) (records_both old.pending bytes more) h.heard) in
-    record {
-      first = k.first;
-      rest = k.rest;
-      all = k.all;
-      mid = record { machine = k.mid; pending = pending_after old.pending bytes; outcome = worst old.outcome k.first };
-      before = record { heard = k.before; pending = refl; outcome = refl };
-      after = record {
-        heard = k.after;
-        pending = h.pending ∙ pending_both old.pending bytes more;
-        outcome = h.outcome ∙ ap (λ (these : List ServiceAnswer). worst old.outcome these) k.all ∙ worst-append old.outcome k.first k.rest;
-      };
-    }
-
-pub of_pieces : (old new : Standing) (bytes more : List ℕ) (answers : List ServiceAnswer) → ServesBoth old bytes more answers new → Serves old (bytes ++ more) answers new
-of_pieces old new bytes more answers h =
-    let after : HearsAll h.mid.machine (records_ending_in (pending_after old.pending bytes) more) h.rest new.machine =
-    subst (λ (p : Pending). HearsAll h.mid.machine (records_ending_in p more) h.rest new.machine) h.before.pending h.after.heard in
-    record {
-      heard =
-          subst (λ (rs : List (Result Record Fault)). HearsAll old.machine rs answers new.machine) (sym (records_both old.pending bytes more))
-          (subst (λ (these : List ServiceAnswer). HearsAll old.machine (records_ending_in old.pending bytes ++ records_ending_in (pending_after old.pending bytes) more) these new.machine) (sym h.all)
-          (HearsAll-both old.machine h.mid.machine new.machine (records_ending_in old.pending bytes) (records_ending_in (pending_after old.pending bytes) more) h.first h.rest h.before.heard after));
-      pending = h.after.pending ∙ ap (λ (p : Pending). pending_after p more) h.before.pending ∙ sym (pending_both old.pending bytes more);
-      outcome =
-          h.after.outcome ∙ ap (λ (o : Outcome). worst o h.rest) h.before.outcome ∙ sym (worst-append old.outcome h.first h.rest)
-          ∙ ap (λ (these : List ServiceAnswer). worst old.outcome these) (sym h.all);
-    }
 
 -- ---- faults
 
@@ -82,13 +31,13 @@ same_behind_fault (Some machine) new one error h = h.1
 
 -- ---- outcomes
 
-stays_faulted : (answers : List ServiceAnswer) → worst outcomes.Faulted answers ≡ outcomes.Faulted
+stays_faulted : (answers : List ServiceAnswer) → worst service_rules outcomes.Faulted answers ≡ outcomes.Faulted
 stays_faulted [] = refl
 stays_faulted (one ∷ answers) = stays_faulted answers
 
 -- behind a fault the outcome is the worst
-faulted_first : (outcome : Outcome) (error : ReadError) (answers : List ServiceAnswer) → worst outcome (Faulted error ∷ answers) ≡ outcomes.Faulted
-faulted_first outcome error answers = ap (λ (o : Outcome). worst o answers) (worse_faulted outcome) ∙ stays_faulted answers
+faulted_first : (outcome : Outcome) (error : ReadError) (answers : List ServiceAnswer) → worst service_rules outcome (Faulted error ∷ answers) ≡ outcomes.Faulted
+faulted_first outcome error answers = ap (λ (o : Outcome). worst service_rules o answers) (worse_faulted outcome) ∙ stays_faulted answers
 
 -- no fault so far, and none of what commands are told
 told_outcome : (refused : Bool) → cond refused outcomes.Refused outcomes.Done ≢ outcomes.Faulted
@@ -102,7 +51,7 @@ worse_both outcomes.Refused outcomes.Refused a b = a
 worse_both outcomes.Refused outcomes.Faulted a b = b
 worse_both outcomes.Faulted other a b = absurd (a refl)
 
-told_never_faulted : (outcome : Outcome) (told : List CommandAnswer) → outcome ≢ outcomes.Faulted → worst outcome (map Replied told) ≢ outcomes.Faulted
+told_never_faulted : (outcome : Outcome) (told : List CommandAnswer) → outcome ≢ outcomes.Faulted → worst service_rules outcome (map Replied told) ≢ outcomes.Faulted
 told_never_faulted outcome [] good = good
 told_never_faulted outcome (one ∷ told) good = told_never_faulted (worse outcome (outcome_of (Replied one))) told (worse_both outcome (outcome_of (Replied one)) good (told_outcome (is_refused one)))
 
@@ -149,12 +98,12 @@ command_at : (machine : Machine) (n : ℕ) (r : Record) (command : Command) → 
 command_at machine n r command is h = subst (λ (m : ℕ). command_in m r ≡ Ok command) is h
 
 -- what commands are told is heard
-told_none : (old new : Machine) (told : List CommandAnswer) → TellsAll old [] told new → HearsAll (Some old) [] (map Replied told) (Some new)
+told_none : (old new : Machine) (told : List CommandAnswer) → TellsAll old [] told new → HearsAll service_rules (Some old) [] (map Replied told) (Some new)
 told_none old new [] run = ap Some run
 told_none old new (one ∷ told) run = absurd run
 
 told_heard : (n i : ℕ) (records : List Record) (commands : List Command) (old new : Machine) (told : List CommandAnswer) → n ≡ length old.history → commands_from n i records ≡ Ok commands → TellsAll old commands told new
-    → HearsAll (Some old) (heard_records records) (map Replied told) (Some new)
+    → HearsAll service_rules (Some old) (heard_records records) (map Replied told) (Some new)
 told_heard n i [] commands old new told is spelt run = told_none old new told (subst (λ (cs : List Command). TellsAll old cs told new) (none_spelt n i commands spelt) run)
 told_heard n i (r ∷ records) commands old new [] is spelt run =
     let first = first_spelt n i r records commands spelt in
@@ -178,7 +127,7 @@ record IsTold (old : Machine) (commands : List Command) (answers : List ServiceA
 
 -- what is heard without a fault is what commands are told
 heard_told : (n i : ℕ) (records : List Record) (commands : List Command) (old : Machine) (new : Option Machine) (answers : List ServiceAnswer) (outcome : Outcome) → n ≡ length old.history
-    → commands_from n i records ≡ Ok commands → HearsAll (Some old) (heard_records records) answers new → worst outcome answers ≢ outcomes.Faulted → IsTold old commands answers new
+    → commands_from n i records ≡ Ok commands → HearsAll service_rules (Some old) (heard_records records) answers new → worst service_rules outcome answers ≢ outcomes.Faulted → IsTold old commands answers new
 heard_told n i [] commands old new [] outcome is spelt heard good =
     record { told = []; end = old; answers_are = refl; new_is = heard; run = subst (λ (cs : List Command). TellsAll old cs [] old) (sym (none_spelt n i commands spelt)) refl }
 heard_told n i [] commands old new (one ∷ answers) outcome is spelt heard good = absurd heard
@@ -190,7 +139,7 @@ heard_told n i (r ∷ records) commands old new (Replied one ∷ answers) outcom
     let same : command ≡ first.command = let there = command_at old n r first.command is first.spelt in cc in
     let told : Tells old first.command one later = subst (λ (c : Command). Tells old c one later) same tells in
     let k = heard_told n (i + 1) records first.others later new answers (worse outcome (outcome_of (Replied one))) (is ∙ sym (length_told old first.command one later told)) first.rest_are
-    (subst (λ (m : Option Machine). HearsAll m (heard_records records) answers new) mid_is heard) good in
+    (subst (λ (m : Option Machine). HearsAll service_rules m (heard_records records) answers new) mid_is heard) good in
     record {
       told = one ∷ k.told;
       end = k.end;
@@ -249,26 +198,26 @@ start_long n mode = sym (length-replicate n _)
 
 -- its records are answered as it is run
 pub served_as_run : (text : List ℕ) (script : Script) (answers : List ServiceAnswer) (new : Option Machine) → script_of_text text ≡ Ok script → records_of text ≡ heard_records (records_of_text text)
-    → IsRunOf script answers new → HearsAll None (records_of text) answers new
+    → IsRunOf script answers new → HearsAll service_rules None (records_of text) answers new
 served_as_run text script answers new spelt heard h =
     let parts = (spelt_script text script spelt).1 in
     let first : Machine = start script.n script.mode in
-    let run : HearsAll None (heard_records (parts.first ∷ parts.rest)) (Began ∷ map Replied h.told) (Some h.end) = (
+    let run : HearsAll service_rules None (heard_records (parts.first ∷ parts.rest)) (Began ∷ map Replied h.told) (Some h.end) = (
       Some first,
       ((script.n, script.mode), parts.began, refl),
       told_heard script.n 2 parts.rest script.commands first h.end h.told (start_long script.n script.mode) parts.commands_are h.run,
     ) in
-    let P : List (Result Record Fault) → List ServiceAnswer → Option Machine → Type 0 = λ rs these m. HearsAll None rs these m in
+    let P : List (Result Record Fault) → List ServiceAnswer → Option Machine → Type 0 = λ rs these m. HearsAll service_rules None rs these m in
     subst (λ (m : Option Machine). P (records_of text) answers m) (sym h.new_is)
     (subst (λ (these : List ServiceAnswer). P (records_of text) these (Some h.end)) (sym h.answers_are)
     (subst (λ (rs : List (Result Record Fault)). P rs (Began ∷ map Replied h.told) (Some h.end)) (sym (heard ∙ ap heard_records parts.records_are)) run))
 
-pub good_as_run : (script : Script) (answers : List ServiceAnswer) (new : Option Machine) → IsRunOf script answers new → worst outcomes.Done answers ≢ outcomes.Faulted
+pub good_as_run : (script : Script) (answers : List ServiceAnswer) (new : Option Machine) → IsRunOf script answers new → worst service_rules outcomes.Done answers ≢ outcomes.Faulted
 good_as_run script answers new h bad =
-    told_never_faulted outcomes.Done h.told (λ e. cc) (ap (λ (these : List ServiceAnswer). worst outcomes.Done these) (sym h.answers_are) ∙ bad)
+    told_never_faulted outcomes.Done h.told (λ e. cc) (ap (λ (these : List ServiceAnswer). worst service_rules outcomes.Done these) (sym h.answers_are) ∙ bad)
 
 began_first : (script : Script) (first : Record) (rest : List Record) (answers : List ServiceAnswer) (new : Option Machine) → world_of first ≡ Ok (script.n, script.mode) → commands_from script.n 2 rest ≡ Ok script.commands
-    → HearsAll None (heard_records (first ∷ rest)) answers new → worst outcomes.Done answers ≢ outcomes.Faulted → IsRunOf script answers new
+    → HearsAll service_rules None (heard_records (first ∷ rest)) answers new → worst service_rules outcomes.Done answers ≢ outcomes.Faulted → IsRunOf script answers new
 began_first script first rest [] new began commands heard good = absurd heard
 began_first script first rest (Faulted error ∷ answers) new began commands heard good = absurd (good (faulted_first outcomes.Done error answers))
 began_first script first rest (Replied told ∷ answers) new began commands heard good = absurd heard.1
@@ -276,12 +225,12 @@ began_first script first rest (Began ∷ answers) new began commands (mid, (worl
     let same : world ≡ (script.n, script.mode) = cc in
     let there : mid ≡ Some (start script.n script.mode) = mid_is ∙ ap (λ (w : ℕ × Mode). Some (start w.0 w.1)) same in
     let k = heard_told script.n 2 rest script.commands (start script.n script.mode) new answers outcomes.Done (start_long script.n script.mode) commands
-    (subst (λ (m : Option Machine). HearsAll m (heard_records rest) answers new) there heard) good in
+    (subst (λ (m : Option Machine). HearsAll service_rules m (heard_records rest) answers new) there heard) good in
     record { told = k.told; end = k.end; run = k.run; answers_are = ap (λ (these : List ServiceAnswer). Began ∷ these) k.answers_are; new_is = k.new_is }
 
 pub run_as_served : (text : List ℕ) (script : Script) (answers : List ServiceAnswer) (new : Option Machine) → script_of_text text ≡ Ok script → records_of text ≡ heard_records (records_of_text text)
-    → HearsAll None (records_of text) answers new → worst outcomes.Done answers ≢ outcomes.Faulted → IsRunOf script answers new
+    → HearsAll service_rules None (records_of text) answers new → worst service_rules outcomes.Done answers ≢ outcomes.Faulted → IsRunOf script answers new
 run_as_served text script answers new spelt heard served good =
     let parts = (spelt_script text script spelt).1 in
     began_first script parts.first parts.rest answers new parts.began parts.commands_are
-    (subst (λ (rs : List (Result Record Fault)). HearsAll None rs answers new) (heard ∙ ap heard_records parts.records_are) served) good
+    (subst (λ (rs : List (Result Record Fault)). HearsAll service_rules None rs answers new) (heard ∙ ap heard_records parts.records_are) served) good

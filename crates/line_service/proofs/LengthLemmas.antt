@@ -2,7 +2,7 @@
 use Rattle.std.proofs.Common.{◌≡◌, ℕ, ◌+◌, List, [], ◌∷◌, length, refl, ap, ◌∙◌}
 use Rattle.std.specs.Prelude.{Bool, None, Some}
 use Rattle.std.proofs.Math.ListN.{length-set}
-use Rattle.line_answers.specs.Answers.{CommandAnswer, Answered, Refused, Listing, Shown, Claimed, Tells}
+use Rattle.line_answers.specs.Answers.{CommandAnswer, Answered, Refused, Listing, Shown, Claimed, Planned, Judged, Tells}
 use Rattle.line_moves.specs.Fates.{events_taken}
 use Rattle.line_moves.specs.Moves.{with_events}
 use Rattle.line_scripts.specs.declared.commands.Command.{Command}
@@ -55,4 +55,8 @@ length_told old commands.Rounds (Listing n rounds) new h = same_length new old h
 length_told old commands.History (Shown history) new h = same_length new old h.1
 length_told old (commands.Bundle failed) (Claimed history claim) new h = same_length new old h.2
 length_told old (commands.Bundle failed) (Refused code) new h = same_length new old h.2
+length_told old (commands.Plan failed) (Planned answer) new h = same_length new old h.1
+length_told old commands.Live (Planned answer) new h = same_length new old h.1
+length_told old (commands.Answer failed) (Judged history claim) new h = same_length new old h.2
+length_told old (commands.Answer failed) (Planned (answers.Refused error)) new h = same_length new old h.1
 length_told old command told new h = absurd h

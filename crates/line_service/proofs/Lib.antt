@@ -1,11 +1,3 @@
-pub mod LineLemmas
-pub mod AllowedLemmas
-pub mod HeardLemmas
-pub mod LengthLemmas
-pub mod TextLemmas
-pub mod LawLemmas
-pub mod TurnLemmas
-pub mod FeedLemmas
-pub mod ByteLemmas
-pub mod RecordLemmas
-pub mod PlainLemmas
+mod LengthLemmas
+mod LawLemmas
+mod RecordLemmas

@@ -1,5 +1,2 @@
-pub mod Lines
+pub mod Laws
 pub mod Services
-pub mod Turns
-pub mod Progress
-pub mod Pieces

@@ -1,26 +1,28 @@
 //! Laws of the definitions, each the contract of a function that does nothing.
 
-ghost use Rattle.std.specs.Prelude.{◌≡◌, ◌≢◌, ◌↔◌, ◌++◌, ◌∷◌, ℕ, List, Option, None, Some, Ok};
-ghost use Rattle.std.specs.Prelude.{Result, map};
+ghost use Rattle.std.specs.Prelude.{◌≡◌, ◌≢◌, ◌↔◌, ◌++◌, ◌∷◌, ℕ, List, None, Option, Ok, Result};
+ghost use Rattle.std.specs.Prelude.{map};
 ghost use Rattle.std.specs.List.{flat_map};
 ghost use Rattle.line_answers.specs.Answers.{CommandAnswer, text_of};
+ghost use Rattle.line_conversations.specs.declared.outcomes.Outcome.TheVariants as outcomes;
+ghost use Rattle.line_conversations.specs.Conversations.{Serves, ServesBoth, ServesText, Standing};
+ghost use Rattle.line_conversations.specs.Lines.{HasShortLines};
+ghost use Rattle.line_conversations.specs.Rules.{worst};
 ghost use Rattle.line_fields.specs.declared.faults.Fault.{Fault};
 ghost use Rattle.line_fields.specs.declared.faults.ReadError.{ReadError};
 ghost use Rattle.line_fields.specs.Records.{Record};
 ghost use Rattle.line_fields.specs.Texts.{records_text};
 ghost use Rattle.line_scripts.specs.Scripts.{Script, script_of_text};
-ghost use Rattle.line_service.specs.declared.outcomes.Outcome.TheVariants as outcomes;
-ghost use Rattle.line_service.specs.Pieces.{HasShortLines, IsRunOf, ServesBoth};
-ghost use Rattle.line_service.specs.Services.{ServiceAnswer, Began, Faulted, Hears, Replied};
-ghost use Rattle.line_service.specs.Services.{Serves};
-ghost use Rattle.line_service.specs.Services.{ServesText, Standing, service_answer_records, worst};
+ghost use Rattle.line_service.specs.Services.{Began, Faulted, Hears, IsRunOf, Replied};
+ghost use Rattle.line_service.specs.Services.{ServiceAnswer, service_answer_records, service_rules};
 ghost use Rattle.line_world.specs.Machine.{Machine};
 
 /// However an input is cut into pieces, its answers are the same: what two pieces may be answered,
 /// one after the other, is what they may be answered as one.
 pub fn pieces_are_answered_alike()
-    ensures { (old new : Standing) (bytes more : List ℕ) (answers : List ServiceAnswer)
-        → Serves old (bytes ++ more) answers new ↔ ServesBoth old bytes more answers new }
+    ensures { (old new : Standing (Option Machine)) (bytes more : List ℕ)
+        (answers : List ServiceAnswer) → Serves service_rules old (bytes ++ more) answers new
+        ↔ ServesBoth service_rules old bytes more answers new }
 {}
 
 /// A text that spells a script, and has no line that is too long, is served as it is run: where no
@@ -31,13 +33,14 @@ pub fn scripts_are_served_as_they_run()
     ensures served { (text : List ℕ) (script : Script) (answers : List ServiceAnswer)
         (new : Option Machine)
         → script_of_text text ≡ Ok script → HasShortLines text
-        → ServesText text answers new → worst outcomes.Done answers ≢ outcomes.Faulted
+        → ServesText service_rules None text answers new
+        → worst service_rules outcomes.Done answers ≢ outcomes.Faulted
         → IsRunOf script answers new }
     ensures run { (text : List ℕ) (script : Script) (answers : List ServiceAnswer)
         (new : Option Machine)
         → script_of_text text ≡ Ok script → HasShortLines text
-        → IsRunOf script answers new → ServesText text answers new
-        × (worst outcomes.Done answers ≢ outcomes.Faulted) }
+        → IsRunOf script answers new → ServesText service_rules None text answers new
+        × (worst service_rules outcomes.Done answers ≢ outcomes.Faulted) }
     ensures texts { (told : List CommandAnswer)
         → records_text (flat_map service_answer_records (Began ∷ map Replied told)) ≡ text_of told }
 {}

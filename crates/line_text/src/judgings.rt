@@ -1,7 +1,8 @@
 //! Check texts that are judged: a text in, a verdict out.
 
-ghost use Rattle.std.specs.Prelude.{◌≡◌, ◌≢◌, ◌++◌, ◌≤◌, ◌⊎◌, [], ℕ, List, Err, Ok, Some};
+ghost use Rattle.std.specs.Prelude.{◌≡◌, ◌≢◌, ◌++◌, ◌≤◌, ◌⊎◌, [], ◌∷◌, ℕ, List, Err, Ok, Some};
 ghost use Rattle.std.specs.Prelude.{IfErr, IfOk, OnErr, OnOk};
+ghost use Rattle.line_check.specs.declared.answers.Start.{Start};
 ghost use Rattle.line_claims.specs.Reads.{IsOfText, no_memory};
 ghost use Rattle.line_claims.specs.Texts.{check_of_text, check_view};
 ghost use Rattle.line_devices.specs.Devices.{Outputs, Puts, PutsFront, one_more};
@@ -13,15 +14,15 @@ ghost use Rattle.line_text.specs.Judgings as spec;
 
 use crate::ends::{WRITE_FAULT, fault_of_code, put};
 use crate::windows::read_lines;
-use line_check::{CertFault, FaultCode, check_certificate};
+use line_check::{AnswerRef, CertFault, FaultCode, check_answer, check_certificate};
 use line_claims::{CheckReader, CheckText, TextFault, name_of, number_field};
 use line_devices::{DeviceFault, Sink, Source};
 use line_fields::{Field, RecordWriter, put_fields, put_numbers};
 use std::alloc::Global;
 
-// What is wrong with a claim, if anything is.
-fn verdict_of(check: &CheckText) -> Option<CertFault>
-    ensures { spec.IsVerdict (check_view check.now) result }
+// What is wrong with the line and the certificate of a claim, if anything is.
+fn verdict_of_line(check: &CheckText) -> Option<CertFault>
+    ensures { spec.IsVerdictOn [] (check_view check.now) result }
 {
     let claim = &check.claim;
     match check_certificate(
@@ -34,6 +35,40 @@ fn verdict_of(check: &CheckText) -> Option<CertFault>
         Ok(()) => None,
         Err(fault) => Some(fault),
     }
+}
+
+// What is wrong with the whole answer of a claim, if anything is.
+fn verdict_of_answer(check: &CheckText) -> Option<CertFault>
+    ensures { (start : Start) (others : List Start)
+        → spec.IsVerdictOn (start ∷ others) (check_view check.now) result }
+{
+    let claim = &check.claim;
+    let certificate = claim.certificate.as_slice();
+    let starts = claim.starts.as_slice();
+    let replays = claim.replays.as_slice();
+    let answer = AnswerRef {
+        line: &claim.line,
+        certificate,
+        starts,
+        replays,
+    };
+    match check_answer(&check.history, &claim.marks, &claim.failed, &answer) {
+        Ok(()) => None,
+        Err(fault) => Some(fault),
+    }
+}
+
+// What is wrong with a claim, if anything is: with its line and certificate where it does not say
+// where the processes go on, and else with the whole answer.
+fn verdict_of(check: &CheckText) -> Option<CertFault>
+    ensures { spec.IsVerdict (check_view check.now) result }
+{
+    let starts = check.claim.starts.as_slice();
+    let count = starts.len();
+    if count == 0 {
+        return verdict_of_line(check);
+    }
+    verdict_of_answer(check)
 }
 
 // The number of a fault of a claim.
@@ -129,7 +164,9 @@ fn check_of<S: Source>(alloc: Global, source: &mut S) -> Result<CheckText, TextF
 ///
 /// A claim that is told `valid` names only what its history has, its entries lead from the latest
 /// surviving choices to its line, and that line is the latest consistent one of choices that
-/// survive.
+/// survive. In a text of version 3 the whole answer is right: each process goes on in the
+/// incarnation and from the state that a restart at the line gives it, and the messages that are
+/// sent again are just those in transit at the line.
 ///
 /// A fault of the text is the first one, with the number of its record; then nothing is judged and
 /// nothing written. `ReadFault` says that the source failed or that the input is too long,

@@ -1,13 +1,14 @@
-//! Judge a claim, and write one down so that anybody can have it judged.
-ghost use Rattle.std.specs.Prelude.{◌≡◌, ◌↔◌, IfOk, IsTrue};
+//! Judge a claim or a whole answer, and write a claim down so that anybody can have it judged.
+ghost use Rattle.std.specs.Prelude.{◌≡◌, ◌↔◌, [], IfOk, IsTrue};
 ghost use Rattle.recline.specs.Shape.{HasShape};
 ghost use Rattle.recline.specs.ClaimRecords.{check_records, in_order};
 ghost use Rattle.recline.specs.Texts.{records_text};
 ghost use Rattle.recline.specs.Chain.{IsChain};
 ghost use Rattle.recline.specs.Survival.{IsLatest};
+ghost use Rattle.recline.specs.WholeAnswers.{IsRightAnswer, answer_of_ref};
 
 use anyhow::Result;
-use recline::check::check_certificate;
+use recline::check::{AnswerRef, check_answer, check_certificate};
 use recline::plan::Plan;
 use recline::text::write_check_text;
 use recline::{History, Marks, ProcSet};
@@ -34,6 +35,17 @@ pub fn is_latest(history: &History, marks: &Marks, failed: &ProcSet, plan: &Plan
     .is_ok()
 }
 
+/// Whether a whole answer to a recovery is right, whoever gave it: its line, where each process
+/// goes on, and what is sent again. Who follows a right one has what a restart at its line leaves.
+pub fn is_right(history: &History, marks: &Marks, failed: &ProcSet, answer: &AnswerRef<'_>) -> bool
+    ensures right { IsTrue result
+        ↔ IsRightAnswer history.now.processes marks.now failed.now (answer_of_ref answer.now) }
+    ensures latest { IsTrue result
+        → IsLatest history.now.processes marks.now failed.now answer.now.line.now }
+{
+    check_answer(history, marks, failed, answer).is_ok()
+}
+
 /// A history and a plan for it as a check text, which `recline check` judges.
 pub fn certificate_text(
     alloc: Global,
@@ -48,6 +60,8 @@ pub fn certificate_text(
           failed = failed.now;
           line = plan.now.line;
           certificate = plan.now.certificate.items;
+          starts = [];
+          replays = [];
         }))) }
 {
     let certificate = plan.certificate.as_slice();

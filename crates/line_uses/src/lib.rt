@@ -12,7 +12,7 @@ mod texts;
 mod workers;
 mod worlds;
 
-pub use claims::{certificate_text, is_latest};
+pub use claims::{certificate_text, is_latest, is_right};
 pub use histories::plan_history;
 pub use recoveries::{run_first, run_generation, run_next};
 pub use services::answers_to;

@@ -1,8 +1,9 @@
 //! That the callers do what they say.
 use crate::{
-    answers_to, certificate_text, is_latest, plan_exchange, plan_history, replies_to, run_first,
-    run_next, run_world,
+    answers_to, certificate_text, is_latest, is_right, plan_exchange, plan_history, replies_to,
+    run_first, run_next, run_world,
 };
+use recline::check::{AnswerRef, Replay, Start};
 use recline::plan::Plan;
 use recline::service::Outcome;
 use recline::workers::Routine;
@@ -83,6 +84,70 @@ fn a_certificate_is_a_text(rt: HostRuntime) -> Result<(), Fail> {
             failed,0\nline,0,0\npass,1,now,0,0,0\npass,1,1,0,0,0\nend\n"
             .as_slice()
     );
+    Ok(())
+}
+
+/// Where two processes go on after a failure of process 1: the one from where it stands, the other
+/// from its initial state, in this incarnation.
+fn two_starts(alloc: Global, inc: u16) -> Result<Vec<Start>, Fail> {
+    let state = State::of(Vec::new(alloc));
+    let mut starts = Vec::with_capacity(alloc, 2)?;
+    starts.push(Start {
+        inc: 0,
+        state: None,
+    })?;
+    starts.push(Start {
+        inc,
+        state: Some(state),
+    })?;
+    Ok(starts)
+}
+
+/// The message that process 0 sends again, or nothing.
+fn replays(alloc: Global, is_sent_again: bool) -> Result<Vec<Replay>, Fail> {
+    let (from, to, body) = (process(0)?, process(1)?, Body::try_new(b"hello")?);
+    let message = MsgName {
+        from,
+        inc: 0,
+        number: 0,
+    };
+    let mut replays = Vec::with_capacity(alloc, 1)?;
+    if is_sent_again {
+        replays.push(Replay {
+            message,
+            to,
+            place: 0,
+            body,
+        })?;
+    }
+    Ok(replays)
+}
+
+/// Whether this is the right answer where process 0 has sent a message and process 1 failed: the
+/// plan's line, process 1 in this incarnation, and the message sent again or not.
+fn judge_answer(alloc: Global, inc: u16, is_sent_again: bool) -> Result<bool, Fail> {
+    let mut history = History::new(alloc, 2)?;
+    sends(&mut history)?;
+    let marks = Marks::new(alloc, history.n())?;
+    let failed = ProcSet::empty().with(process(1)?);
+    let plan = plan_history(alloc, &history, &marks, &failed)?;
+    let starts = two_starts(alloc, inc)?;
+    let replays = replays(alloc, is_sent_again)?;
+    let answer = AnswerRef {
+        line: &plan.line,
+        certificate: plan.certificate.as_slice(),
+        starts: starts.as_slice(),
+        replays: replays.as_slice(),
+    };
+    Ok(is_right(&history, &marks, &failed, &answer))
+}
+
+#[test]
+fn whole_answers_are_judged(rt: HostRuntime) -> Result<(), Fail> {
+    let right = judge_answer(rt.alloc(), 1, true)?;
+    let not_restarted = judge_answer(rt.alloc(), 0, true)?;
+    let not_sent = judge_answer(rt.alloc(), 1, false)?;
+    assert_eq!(rt; [right, not_restarted, not_sent], [true, false, false]);
     Ok(())
 }
 

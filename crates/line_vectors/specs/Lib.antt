@@ -1,2 +1,4 @@
 pub mod Reach
 pub mod Vectors
+pub mod Blocks
+pub mod Lanes

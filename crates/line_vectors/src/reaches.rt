@@ -1,12 +1,12 @@
 //! How much a process has heard of the others.
 ghost use Rattle.std.specs.Prelude.{◌≡◌, ◌<◌, ◌≤◌, ◌↔◌, IsTrue, IfOk, MatchOption, length};
 ghost use Rattle.std.specs.Prelude.{replicate, slice_index};
-ghost use Rattle.line_lanes.specs.Lanes.{greater_of, over_count};
+ghost use Rattle.line_vectors.specs.Lanes.{greater_of, over_count};
 ghost use Rattle.line_vectors.specs.Vectors.{lanes_with_message, Fits, FitsBefore, IsFirstBeyond};
 
 use crate::limits::LAST_NUMBER;
 use crate::sents::Sent;
-use line_lanes::{all_le, count_over, first_over_from, max_into};
+use crate::{all_le, count_over, first_over_from, max_into};
 use line_names::{MOST_PROCESSES, MsgName, ProcId};
 use std::alloc::{AllocError, Global};
 use std::marker::Model;

@@ -1,5 +1,7 @@
 -- The command line of the program, and the job that the words of one ask for.
-use Rattle.std.specs.Prelude.{◌≡◌, ◌≢◌, ◌⊎◌, ◌≤◌, ℕ, List, [], ◌∷◌, IsSomeAnd, Some, codes, true, ⊤}
+use Rattle.std.specs.Prelude.{◌≡◌, ◌≢◌, ◌⊎◌, ◌≤◌, ℕ, List, [], ◌∷◌, IsSomeAnd, Option, None, Some}
+use Rattle.std.specs.Prelude.{codes, if◌then◌else◌, true, ⊤}
+use Rattle.std.specs.Str.{bytes_eq}
 use Rattle.std.specs.Str.Parse.{IsNumeral, digits_value, without_leading_plus}
 use Rattle.clap.specs.Words.{App, IsAmong, Kinds, Row, Rule, Text, fault_of, new_app, new_rule}
 use Rattle.clap.specs.Words.{one_of, subcommand_of, takes, with_rule, with_subcommand}
@@ -8,7 +10,7 @@ use Rattle.clap.specs.declared.error.kind.ErrorKind.{ErrorKind}
 use Rattle.clap.specs.declared.error.kind.ErrorKind.TheVariants as errors
 use Rattle.line_words.specs.declared.jobs.TheConstants.{MOST_DRILL_WORKERS}
 use Rattle.line_words.specs.declared.jobs.Job.{Job}
-use Rattle.line_words.specs.declared.jobs.Job.TheVariants.{Check, Drill, Run, Serve}
+use Rattle.line_words.specs.declared.jobs.Job.TheVariants.{Check, Collect, Drill, Run, Serve}
 use Rattle.line_words.specs.declared.faults.WordsFault.{WordsFault}
 use Rattle.line_words.specs.declared.faults.WordsFault.TheVariants as faults
 
@@ -36,8 +38,18 @@ with_bare app name = with_subcommand app (new_app name).top
 abbrev pub recline : App
 recline =
     let run = with_bare (as_program (new_app (codes "recline"))) (codes "run") in
-    let check = with_bare (with_bare run (codes "serve")) (codes "check") in
+    let collect = with_bare (with_bare run (codes "serve")) (codes "collect") in
+    let check = with_bare collect (codes "check") in
     with_subcommand check drill_subcommand.top
+
+-- the line that gives a file to a command which reads standard input
+abbrev pub line_with_file : Text → Option Text
+line_with_file command =
+    if bytes_eq command (codes "run") then Some (codes "recline run < FILE")
+    else if bytes_eq command (codes "serve") then Some (codes "recline serve < FILE")
+    else if bytes_eq command (codes "collect") then Some (codes "recline collect < FILE")
+    else if bytes_eq command (codes "check") then Some (codes "recline check < FILE")
+    else None
 
 -- the text spells the number, in decimal digits that a plus may stand before
 abbrev pub Spells : Text → ℕ → Type 0
@@ -56,6 +68,7 @@ pub record IsNumberOf (name : Text) (least most : ℕ) (options : List Row) (num
 abbrev pub IsAskedBy : Job → Text × List Row → Type 0
 IsAskedBy Run asked = asked.0 ≡ codes "run"
 IsAskedBy Serve asked = asked.0 ≡ codes "serve"
+IsAskedBy Collect asked = asked.0 ≡ codes "collect"
 IsAskedBy Check asked = asked.0 ≡ codes "check"
 IsAskedBy (Drill workers rounds) asked =
     (asked.0 ≡ codes "drill")

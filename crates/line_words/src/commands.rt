@@ -65,17 +65,21 @@ fn bare_command<'a>(alloc: Global) -> Command<'a>
 }
 
 /// The command of the program, with the subcommands for scripts, for records that come one by one,
-/// for claims and for drills.
+/// for reports, for claims and for drills.
 fn recline_command<'a>(alloc: Global) -> Result<Command<'a>, AllocError>
     ensures { IfOk result (λ command. app_of command ≡ recline) }
 {
     let run = "Reads a script on standard input and writes the replies on standard output";
     let serve = "Answers the records on standard input as they come, for as long as it lasts";
+    let collect =
+        "Collects what processes report on standard input, as it comes, and plans from that";
     let check = "Reads a history and a claim on it on standard input and writes the verdict on \
                  standard output";
     let with_run = bare_command(alloc).subcommand(plain_command(alloc, "run", run, helps::RUN))?;
     let with_serve = with_run.subcommand(plain_command(alloc, "serve", serve, helps::SERVE))?;
-    let with_check = with_serve.subcommand(plain_command(alloc, "check", check, helps::CHECK))?;
+    let reports = plain_command(alloc, "collect", collect, helps::COLLECT);
+    let with_collect = with_serve.subcommand(reports)?;
+    let with_check = with_collect.subcommand(plain_command(alloc, "check", check, helps::CHECK))?;
     with_check.subcommand(drill_command(alloc)?)
 }
 

@@ -53,6 +53,29 @@ Statuses: 0 all commands were done; 1 a command was refused; 2 a record had a fa
 wanting at the start, or standard input or output failed.
 All records and answers: docs/FORMATS.md, and recline(1).";
 
+/// A conversation of reports, and what the statuses of a collection mean.
+pub(crate) const COLLECT: &str = "\
+Records are reports of what processes did, those of each process in its order, and an empty line
+ends each answer. What is read (>) and written (<):
+  > reports,1,2
+  <
+  > recv,1,0,0,0,0
+  < took,0,0,0,-
+  <
+  > send,0,0,1,61
+  < sent,0,0,0
+  <
+  > recover,0
+  < recovered,2,1,0
+  < line,0,0,1,
+  < line,1,0,1,
+  < pass,1,now,0,0,0
+  <
+
+Statuses: 0 all was done; 1 a report was refused; 2 a record had a fault; 3 memory was wanting at
+the start, or standard input or output failed.
+All records and answers: docs/REPORTS.md, and recline(1).";
+
 /// A claim and the verdict on it, and what the statuses of a check mean.
 pub(crate) const CHECK: &str = "\
 A history of one process, which took a check and failed, and the claim that it goes back to that \

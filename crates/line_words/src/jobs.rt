@@ -15,6 +15,8 @@ pub enum Job {
     Run,
     /// Answers records as they come.
     Serve,
+    /// Collects what processes report.
+    Collect,
     /// Judges a claim.
     Check,
     /// Has workers in threads send each other messages.
@@ -53,6 +55,7 @@ pub(crate) fn job_of(matches: &ArgMatches) -> Option<Job>
     match matches.subcommand()? {
         ("run", _) => Some(Job::Run),
         ("serve", _) => Some(Job::Serve),
+        ("collect", _) => Some(Job::Collect),
         ("check", _) => Some(Job::Check),
         ("drill", options) => drill_of(options),
         _ => None,

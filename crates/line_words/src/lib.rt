@@ -6,9 +6,11 @@ mod faults;
 mod helps;
 mod jobs;
 mod readings;
+mod remedies;
 mod words;
 
 pub use faults::WordsFault;
 pub use jobs::{Job, MOST_DRILL_WORKERS};
 pub use readings::fault_of_reading;
+pub use remedies::line_with_file;
 pub use words::{command_of, jobs_are_taken};

@@ -32,6 +32,7 @@ pub fn command_of<'a>(alloc: Global, words: &'a [&'a str]) -> Result<Job, WordsF
 pub fn jobs_are_taken()
     ensures run { IsTakenAs (codes "recline" ∷ codes "run" ∷ []) Job.Run }
     ensures serve { IsTakenAs (codes "recline" ∷ codes "serve" ∷ []) Job.Serve }
+    ensures collect { IsTakenAs (codes "recline" ∷ codes "collect" ∷ []) Job.Collect }
     ensures check { IsTakenAs (codes "recline" ∷ codes "check" ∷ []) Job.Check }
     ensures drill { IsTakenAs (codes "recline" ∷ codes "drill" ∷ []) (Job.Drill 2 1) }
     ensures both { IsTakenAs (codes "recline" ∷ codes "drill" ∷ codes "--workers" ∷ codes "3"

@@ -20,7 +20,7 @@ use Rattle.line_steps.specs.declared.modes.Mode.TheVariants.{Fifo, Unordered}
 use Rattle.std.specs.List.{All}
 use Rattle.std.proofs.lemmas.List.Elements.{All-head, All-tail}
 use Rattle.line_moves.specs.Queues.{taken_off}
-use Rattle.line_turns.specs.Tables.{between}
+use Rattle.line_colours.specs.Tables.{between}
 use Rattle.line_moves.specs.Worlds.{names_on, IsItemOf, IsMessage, IsWorld}
 use Rattle.line_world.specs.Machine.{Machine, items_on, with_step}
 use Rattle.line_moves.specs.Modes.{copies_in}

@@ -10,10 +10,10 @@ use Rattle.line_tape.specs.History.{Process, tape_at}
 use Rattle.line_tape.specs.Rounds.{has_check_of}
 use Rattle.line_tape.specs.Colours.{colour, message_colour, AreColoured}
 use Rattle.std.specs.Option.{SomeIff}
-use Rattle.line_turns.specs.Flags.{AreFlagged}
-use Rattle.line_turns.specs.Kept.{ProcessTurns, AreTurned}
-use Rattle.line_turns.specs.Tables.{between}
-use Rattle.line_turns.specs.Turning.{TurningView}
+use Rattle.line_colours.specs.Flags.{AreFlagged}
+use Rattle.line_colours.specs.Kept.{ProcessTurns, AreTurned}
+use Rattle.line_colours.specs.Tables.{between}
+use Rattle.line_colours.specs.Turning.{TurningView}
 use Rattle.line_moves.specs.declared.fates.Fate.{Fate}
 use Rattle.line_moves.specs.declared.fates.Fate.TheVariants.{Taken}
 use Rattle.line_steps.specs.declared.modes.Mode.{Mode}

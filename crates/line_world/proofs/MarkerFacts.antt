@@ -12,7 +12,7 @@ use Rattle.line_tape.specs.Rounds.{has_check_of}
 use Rattle.line_tape.proofs.EventLemmas.{tape_same}
 use Rattle.line_laws.proofs.RoundLines.{checked_has, completed_checked}
 use Rattle.line_laws.proofs.SnapshotLemmas.{snapshot_event}
-use Rattle.line_turns.specs.Turning.{IsTurning}
+use Rattle.line_colours.specs.Turning.{IsTurning}
 use Rattle.line_steps.specs.declared.modes.Mode.{Mode}
 use Rattle.line_steps.specs.declared.modes.Mode.TheVariants.{Fifo, Unordered}
 use Rattle.line_moves.specs.Fates.{is_forced, marker_events}

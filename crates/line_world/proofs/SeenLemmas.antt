@@ -9,7 +9,7 @@ use Rattle.line_tape.specs.History.{Process, incarnation_at, with_event}
 use Rattle.line_tape.specs.Spent.{next_name}
 use Rattle.line_tape.specs.Views.{MarksView}
 use Rattle.line_names.specs.declared.messages.MsgName.{MsgName}
-use Rattle.line_turns.specs.Tables.{between, with_list}
+use Rattle.line_colours.specs.Tables.{between, with_list}
 use Rattle.line_steps.specs.declared.modes.Mode.{Mode}
 use Rattle.line_steps.specs.declared.modes.Mode.TheVariants.{Fifo, Unordered}
 use Rattle.line_moves.specs.Listed.{newly_listed, ListedRound}

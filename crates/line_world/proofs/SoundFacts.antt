@@ -26,8 +26,8 @@ use Rattle.line_laws.proofs.CopyLemmas.{transit_copies}
 use Rattle.line_laws.proofs.ForcedLemmas.{colour_less, colour_most, forced_next, forced_open, message_colour_reached, receipt_waits}
 use Rattle.line_tape.proofs.LineLemmas.{tape_at-past}
 use Rattle.line_laws.proofs.SnapshotLemmas.{latest_reached}
-use Rattle.line_turns.specs.Tables.{between, table_of, with_list, IsTable}
-use Rattle.line_turns.proofs.TableLemmas.{between-of, IsTable-of}
+use Rattle.line_colours.specs.Tables.{between, table_of, with_list, IsTable}
+use Rattle.line_colours.proofs.TableLemmas.{between-of, IsTable-of}
 use Rattle.line_moves.specs.declared.fates.Fate.{Fate}
 use Rattle.line_moves.specs.declared.fates.Fate.TheVariants.{Taken, Stale as IsStale, Repeated as IsRepeated}
 use Rattle.line_steps.specs.declared.modes.Mode.{Mode}

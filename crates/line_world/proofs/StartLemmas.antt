@@ -13,10 +13,10 @@ use Rattle.line_laws.proofs.CopyLemmas.{unordered_start}
 use Rattle.line_tape.specs.Rounds.{has_check_of, rounds_checked}
 use Rattle.line_steps.specs.declared.modes.Mode.{Mode}
 use Rattle.line_steps.specs.declared.modes.Mode.TheVariants.{Fifo, Unordered}
-use Rattle.line_turns.specs.Tables.{between, IsTable}
+use Rattle.line_colours.specs.Tables.{between, IsTable}
 use Rattle.line_moves.specs.Modes.{copies_in}
 use Rattle.line_moves.proofs.WorldLemmas.{names-at, names-shape}
-use Rattle.line_turns.proofs.TableLemmas.{between-none, table_of-all, IsTable-none}
+use Rattle.line_colours.proofs.TableLemmas.{between-none, table_of-all, IsTable-none}
 use Rattle.line_moves.specs.Worlds.{IsItemOf, message_of, messages_at, names_on, AreQueues, AreRounds, HoldMessages, IsOrderedWorld, IsLinked, IsMessage, IsWorld}
 use Rattle.line_moves.specs.Listed.{ListedRound, IsSnapshotOf}
 

@@ -27,6 +27,7 @@ pub use Rattle.line_tape.specs.declared.items.Item
 pub use Rattle.line_steps.specs.declared.modes.Mode
 pub use Rattle.line_world.specs.declared.replies.Answer
 pub use Rattle.line_steps.specs.declared.steps.Step
+pub use Rattle.line_scripts.specs.declared.commands.Command
 -- Catalogues, and the vectors of choices.
 pub use Rattle.line_catalogue.specs.Agreement
 pub use Rattle.line_catalogue.specs.Damage
@@ -34,8 +35,13 @@ pub use Rattle.line_catalogue.specs.Rows as CatalogueRows
 pub use Rattle.line_catalogue.specs.Views as CatalogueViews
 pub use Rattle.line_vectors.specs.Reach
 pub use Rattle.line_vectors.specs.Vectors
-pub use Rattle.line_lanes.specs.Lanes
--- Claims that are judged.
+pub use Rattle.line_vectors.specs.Lanes
+-- Claims and whole answers that are judged.
+pub use Rattle.line_check.specs.declared.answers.Replay
+pub use Rattle.line_check.specs.declared.answers.Start
+pub use Rattle.line_check.specs.Answers as WholeAnswers
+pub use Rattle.line_check.specs.Faults as AnswerFaults
+pub use Rattle.line_check.specs.Followed
 pub use Rattle.line_check.specs.Shape
 pub use Rattle.line_check.specs.Verdict
 -- Worlds.
@@ -93,7 +99,10 @@ pub use Rattle.line_drills.specs.Faults as DrillFaults
 pub use Rattle.line_drills.specs.Scripts as DrillScripts
 -- Services.
 pub use Rattle.line_answers.specs.Answers
-pub use Rattle.line_service.specs.Lines as ServiceLines
-pub use Rattle.line_service.specs.Pieces
+pub use Rattle.line_answers.specs.Live
+pub use Rattle.line_conversations.specs.Answers as RecordAnswers
+pub use Rattle.line_conversations.specs.Conversations
+pub use Rattle.line_conversations.specs.Lines as ServiceLines
+pub use Rattle.line_conversations.specs.Rules
+pub use Rattle.line_conversations.specs.Turns
 pub use Rattle.line_service.specs.Services
-pub use Rattle.line_service.specs.Turns

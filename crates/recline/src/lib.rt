@@ -26,12 +26,17 @@ pub mod plan {
     pub use line_vectors::{ReachRef, Sent};
 }
 
-/// Judge a line, or a line with its certificate, from the history alone, whoever made it. No call
-/// takes memory, and none trusts the planner.
+/// Judge a line, a line with its certificate, or the whole answer to a recovery from the history
+/// alone, whoever made it. No call takes memory, and none trusts the planner.
 ///
-/// Begin with `check_certificate` or `check_consistent`. The laws say what a certificate shows.
+/// Begin with `check_answer`, `check_certificate` or `check_consistent`. The laws say what a right
+/// answer and a certificate show. `next_replay` walks over what is sent again.
 pub mod check {
-    pub use line_check::{CertFault, FaultCode, LineFault, check_certificate, check_consistent};
+    pub use line_check::{
+        AnswerRef, CertFault, FaultCode, LineFault, Replay, ReplayCursor, ReplayRef, Start,
+        check_answer, check_certificate, check_consistent, next_replay, plans_make_right_answers,
+        right_answers_restart,
+    };
     pub use line_laws::{chain_makes_latest, chain_passes_each, latest_is_unique, now_is_latest};
 }
 
@@ -52,17 +57,19 @@ pub mod world {
 /// come from a `Source` and go to a `Sink`: memory, files, pipes, sockets, or a device of your own.
 ///
 /// Begin with `run_text` or `check_text` over `MemSource` and `MemSink`, or over `ReadSource` and
-/// `WriteSink`; with `read_script`, `read_history` or `read_check_text`; or with `write_history` or
-/// `write_check_text`. `RecordReader` and `RecordWriter` are for records of your own.
+/// `WriteSink`; with `read_script`, `read_history` or `read_check_text`; or with `write_history`,
+/// `write_check_text` or `put_answer`. `RecordReader` and `RecordWriter` are for records of your
+/// own.
 pub mod text {
-    pub use line_answers::{put_refusal, put_reply, write_reply};
+    pub use line_answers::{live_lines_stay, put_refusal, put_reply, write_reply};
     pub use line_claims::{
-        CheckText, Claim, TextFault, claims_are_read_again, histories_are_read_again, name_of,
-        put_check_text, read_certificate, read_check_text, read_history, version_2_reads_version_1,
-        write_check_text, write_history,
+        CheckText, Claim, ClaimRef, TextFault, claims_are_read_again, histories_are_read_again,
+        name_of, put_answer, put_check_text, read_certificate, read_check_text, read_history,
+        version_2_reads_version_1, write_check_text, write_history,
     };
     pub use line_devices::{
-        DeviceFault, MOST_INPUT, MemSink, MemSource, ReadRefused, Sink, Source, put_all, read_all,
+        DeviceFault, MOST_INPUT, MemSink, MemSource, ReadRefused, ReadSource, Sink, Source,
+        WriteSink, put_all, read_all,
     };
     pub use line_fields::{
         Fault, FieldRow, ReadError, RecordReader, RecordWriter, hex, is_plain, number,
@@ -70,7 +77,6 @@ pub mod text {
     pub use line_scripts::{
         Command, Script, read_script, scripts_are_read_again, version_2_reads_scripts_of_version_1,
     };
-    pub use line_streams::{ReadSource, WriteSink};
     pub use line_text::{
         Done, check_text, claims_of_version_1_are_judged_alike_in_version_2, run_text,
         scripts_of_both_versions_run_alike,
@@ -99,6 +105,7 @@ pub mod workers {
 /// Begin with `serve` over a `Source` and a `Sink` of `text`; or with `Service::new` and `hear`,
 /// where the bytes come from elsewhere.
 pub mod service {
+    pub use line_conversations::{Answerer, Conversation, Stop, converse, take_turn};
     pub use line_service::{
         MOST_LINE, Outcome, ServeError, Service, faults_change_nothing, pieces_are_answered_alike,
         scripts_are_served_as_they_run, serve, serve_turn,

@@ -147,10 +147,12 @@ fn put_replays<K: Sink>(
     Ok(())
 }
 
-// Writes the records of a recovery.
-pub(super) fn put_recovery<K: Sink>(
+/// Writes the records of a recovery, or of one that is only told of, after what a writer holds. The
+/// first one begins with the word.
+pub(crate) fn put_recovery<K: Sink>(
     sink: &mut K,
     writer: &mut RecordWriter,
+    word: &[u8],
     plan: &Plan,
     incarnations: &Vec<u16>,
     states: &Vec<Option<State>>,
@@ -159,7 +161,8 @@ pub(super) fn put_recovery<K: Sink>(
         (K.faults sink.new) writer.new
         (writer.old
         ++ records_text
-        (spec.recovery_records plan.now.sweeps plan.now.certificate.items plan.now.replays.items
+        (spec.recovery_records word.now plan.now.sweeps plan.now.certificate.items
+        plan.now.replays.items
         plan.now.line incarnations.now.items states.now.items)) }
 {
     let entries = plan.certificate.as_slice();
@@ -169,7 +172,7 @@ pub(super) fn put_recovery<K: Sink>(
         entries.len() as u64,
         replays.len() as u64,
     ];
-    put_numbers(sink, writer, b"recovered", &numbers)?;
+    put_numbers(sink, writer, word, &numbers)?;
     let choices = plan.line.choices();
     put_lines(
         sink,

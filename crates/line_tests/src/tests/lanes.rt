@@ -1,5 +1,5 @@
 //! Questions of lanes at lengths on both sides of a block's.
-use line_lanes::{all_le, count_over, first_over, max_into};
+use line_vectors::{all_le, count_over, first_over, max_into};
 use std::alloc::Global;
 use std::test::Fail;
 

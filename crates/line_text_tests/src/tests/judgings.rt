@@ -2,7 +2,7 @@
 ghost use Rattle.std.specs.Prelude.{◌<◌};
 
 use crate::tests::made::{fault_of, followed_by};
-use line_check::CertFault;
+use line_check::{CertFault, FaultCode};
 use line_devices::{MemSink, MemSource};
 use line_text::{TextFault, check_text};
 use std::alloc::{AllocError, Global};
@@ -105,4 +105,19 @@ fn judges_no_record_before_a_byte_in_a_later_piece(rt: HostRuntime) {
     };
     assert!(rt; is_answered(rt.alloc(), first, b"end\x01\n", Err(fault_of(32))));
     assert!(rt; is_answered(rt.alloc(), first, b"end\n", Err(third)));
+}
+
+/// An answer is judged whose text is longer than what is read at a time: where all messages are
+/// lost with their sender, and where all are in transit and none is sent again.
+#[test]
+fn judges_an_answer_of_several_pieces(rt: HostRuntime) {
+    let first = b"history,3,2\ntape,0,0\n";
+    let lost = b"tape,1,0\nfailed,0\nline,0,now\nstart,0,1,\nstart,1,0,-\nend\n";
+    let kept = b"tape,1,0\nfailed\nline,now,now\nstart,0,0,-\nstart,1,0,-\nend\n";
+    let missing = CertFault {
+        entry: None,
+        code: FaultCode::ReplayMissing,
+    };
+    assert!(rt; is_answered(rt.alloc(), first, lost, Ok(None)));
+    assert!(rt; is_answered(rt.alloc(), first, kept, Ok(Some(missing))));
 }

@@ -5,7 +5,7 @@ ghost use Rattle.line_tape.specs.declared.items.Item.TheVariants.{Message, Marke
 ghost use Rattle.line_tape.specs.Event.{Holds};
 ghost use Rattle.line_tape.specs.Fit.{IsSentTo};
 ghost use Rattle.line_tape.specs.History.{tape_at};
-ghost use Rattle.line_turns.specs.Flags.{AreFlagged};
+ghost use Rattle.line_colours.specs.Flags.{AreFlagged};
 ghost use Rattle.line_moves.specs.declared.fates.Fate.TheVariants.{Taken};
 ghost use Rattle.line_steps.specs.declared.modes.Mode.TheVariants.{Fifo, Unordered};
 ghost use Rattle.line_moves.specs.Fates.{fate_of, forced_round};
@@ -19,12 +19,12 @@ use super::World;
 use super::refusals::lacks_room;
 use crate::protocols::Protocol;
 use crate::replies::{Reply, StepError};
+use line_colours::ReceivedSends;
 use line_moves::{
     Fate, add_receipt, is_forced, list_completed, take_copy, take_marker, take_message, turn_round,
 };
 use line_names::{Choice, MsgName, ProcId};
 use line_tape::{History, Item};
-use line_turns::ReceivedSends;
 use std::alloc::Global;
 
 /// What becomes of a copy that a delivery picks. Its sender's tape tells whether it is held, and

@@ -9,9 +9,9 @@ ghost use Rattle.line_world.specs.Runs.{Takes};
 use super::World;
 use crate::protocols::Protocol;
 use crate::replies::{Reply, StepError};
+use line_colours::Turning;
 use line_moves::{begin_round, list_completed, turn_round};
 use line_names::ProcId;
-use line_turns::Turning;
 use std::alloc::Global;
 
 impl World {

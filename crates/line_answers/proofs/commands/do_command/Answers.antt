@@ -110,3 +110,30 @@ pub returns-in_err-put_refusal-in-Err-clause-failed : goal.returns-in_err-put_re
 returns-in_err-put_refusal-in-Err-clause-failed g c =
     let passed_on = err_from_is_err_and c.from_residual-in_err-put_refusal-in-Err.result c.from_residual-in_err-put_refusal-in-Err.ensures.1 in
     rw passed_on.1 (λ same. c.in_err-put_refusal-in-Err.ensures.failed)
+
+pub returns-in-Plan-clause-ok : goal.returns-in-Plan-clause-ok
+returns-in-Plan-clause-ok g c = rw c.in-Plan.is c.put_plan.ensures.ok
+
+pub returns-in-Plan-clause-memory : goal.returns-in-Plan-clause-memory
+returns-in-Plan-clause-memory g c = IfErr-weaker c.put_plan.result _ _ (λ halt h same. (refl, (h same).0, (h same).1)) c.put_plan.ensures.memory
+
+pub returns-in-Plan-clause-write : goal.returns-in-Plan-clause-write
+returns-in-Plan-clause-write g c = rw c.in-Plan.is c.put_plan.ensures.write
+
+pub returns-in-Live-clause-ok : goal.returns-in-Live-clause-ok
+returns-in-Live-clause-ok g c = rw c.in-Live.is c.put_live.ensures.ok
+
+pub returns-in-Live-clause-memory : goal.returns-in-Live-clause-memory
+returns-in-Live-clause-memory g c = IfErr-weaker c.put_live.result _ _ (λ halt h same. (refl, (h same).0, (h same).1)) c.put_live.ensures.memory
+
+pub returns-in-Live-clause-write : goal.returns-in-Live-clause-write
+returns-in-Live-clause-write g c = rw c.in-Live.is c.put_live.ensures.write
+
+pub returns-in-Answer-clause-ok : goal.returns-in-Answer-clause-ok
+returns-in-Answer-clause-ok g c = rw c.in-Answer.is c.put_whole_answer.ensures.ok
+
+pub returns-in-Answer-clause-memory : goal.returns-in-Answer-clause-memory
+returns-in-Answer-clause-memory g c = IfErr-weaker c.put_whole_answer.result _ _ (λ halt h same. (refl, (h same).0, (h same).1)) c.put_whole_answer.ensures.memory
+
+pub returns-in-Answer-clause-write : goal.returns-in-Answer-clause-write
+returns-in-Answer-clause-write g c = rw c.in-Answer.is c.put_whole_answer.ensures.write

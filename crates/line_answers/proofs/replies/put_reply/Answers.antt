@@ -1,6 +1,10 @@
+use Rattle.std.proofs.Common.{ap, sym}
+use Rattle.std.specs.Prelude.{codes}
 use Rattle.line_devices.proofs.OutputLemmas.{outputs_as}
 use Rattle.line_fields.proofs.OutletLemmas.{one_text}
-use Rattle.line_answers.specs.Replies.{sent_record, took_record, marked_record, stale_record, repeated_record, checked_record, begun_record, turned_record, damaged_record, barred_record}
+use Rattle.line_fields.specs.Texts.{records_text}
+use Rattle.line_plan.specs.declared.plans.Plan.{Plan}
+use Rattle.line_answers.specs.Replies.{recovery_records, sent_record, took_record, marked_record, stale_record, repeated_record, checked_record, begun_record, turned_record, damaged_record, barred_record}
 use Rattle.line_answers.proofs.replies.put_reply.Goals as goal
 
 pub returns-in-Sent : goal.returns-in-Sent
@@ -32,3 +36,10 @@ returns-in-Damaged g c = rw c.in-Damaged.is (outputs_as _ _ _ _ _ _ _ _ _ (one_t
 
 pub returns-in-Barred : goal.returns-in-Barred
 returns-in-Barred g c = rw c.in-Barred.is (outputs_as _ _ _ _ _ _ _ _ _ (one_text (barred_record c.in-Barred.at c.in-Barred.check)) c.put_at_check-in-Barred.ensures)
+
+pub returns-in-Recovered : goal.returns-in-Recovered
+returns-in-Recovered g c =
+    rw c.in-Recovered.is
+    (outputs_as _ _ _ _ _ _ _ _ _
+    (ap (λ (p : Plan). records_text (recovery_records (codes "recovered") p.sweeps p.certificate.items p.replays.items p.line c.in-Recovered.incarnations.items c.in-Recovered.states.items)) (sym c.deref.ensures))
+    c.put_recovery.ensures)

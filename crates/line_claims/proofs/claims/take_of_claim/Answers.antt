@@ -2,6 +2,3 @@ use Rattle.line_claims.proofs.claims.take_of_claim.Goals as goal
 
 pub returns-in-Line-clause-exact : goal.returns-in-Line-clause-exact
 returns-in-Line-clause-exact c = rw c.in-Line.is (c.take_line.ensures.exact c.args.n)
-
-pub returns-in-Entries-clause-exact : goal.returns-in-Entries-clause-exact
-returns-in-Entries-clause-exact c = rw c.in-Entries.is (c.take_entry.ensures.exact c.args.version)

@@ -1,7 +1,7 @@
 -- The channels of a round that the check completes are what is in transit where its process stands now and the others at their checks.
 use Rattle.std.proofs.Common.{ℕ, List, sym, ◌∙◌}
 use Rattle.line_tape.specs.History.{Process}
-use Rattle.line_turns.specs.Turning.{TurningView}
+use Rattle.line_colours.specs.Turning.{TurningView}
 use Rattle.line_moves.proofs.TurnFacts.{turn_completed, turn_counted}
 use Rattle.line_moves.proofs.counts.count_channels.Goals as goal
 

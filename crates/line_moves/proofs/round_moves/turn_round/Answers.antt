@@ -2,7 +2,7 @@
 use Rattle.std.proofs.Common.{◌≡◌, ◌++◌, ◌∷◌, [], ℕ, List, sym, ap, ◌∙◌, subst, arith}
 use Rattle.line_tape.specs.History.{Process, tape_at}
 use Rattle.line_tape.specs.Rounds.{has_check_of}
-use Rattle.line_turns.specs.Turning.{TurningView, IsTurning}
+use Rattle.line_colours.specs.Turning.{TurningView, IsTurning}
 use Rattle.line_steps.specs.declared.modes.Mode.TheVariants.{Unordered}
 use Rattle.line_moves.specs.Listed.{ListedRound, listed_round}
 use Rattle.line_moves.specs.Openings.{opened_turning, IsCountedAtRound}

@@ -1,4 +1,4 @@
-use Rattle.std.proofs.Common.{◌≡◌, Bool, true, false, List, [], sym, ap, ◌∙◌, subst, arith}
+use Rattle.std.proofs.Common.{◌≡◌, Bool, true, false, List, [], inl, sym, ap, ◌∙◌, subst, arith}
 use Rattle.std.proofs.lemmas.Bool.{false≢true}
 use Rattle.std.proofs.lemmas.List.{get_or-replicate}
 use Rattle.line_names.specs.declared.limits.TheConstants.{MOST_PROCESSES}
@@ -12,6 +12,7 @@ use Rattle.line_laws.proofs.ChainLemmas.{latest_from_chain}
 use Rattle.line_tape.proofs.LineLemmas.{IsConsistent-below}
 use Rattle.line_tape.specs.History.{Process}
 use Rattle.line_laws.proofs.LedLemmas.{height-first, IsLine-led}
+use Rattle.line_plan.specs.Sweeps.{sweeps_with_entries}
 use Rattle.line_plan.proofs.planner.plan.Goals as goal
 
 pub overflow_add-sweeps : goal.overflow_add-sweeps
@@ -30,6 +31,11 @@ returns-then-not-lowered-clause-chain c = record {
   leads = c.in_ok-lowered.ensures.led;
   consistent = IsConsistent-below c.args.catalogue.now.processes c.sweep.new.line (c.in_ok-lowered.ensures.none c.if-not-lowered.true);
 }
+
+pub returns-then-not-lowered-clause-sweeps : goal.returns-then-not-lowered-clause-sweeps
+returns-then-not-lowered-clause-sweeps c =
+    let same = ap (λ (es : List Passed). sweeps_with_entries es) (c.in_ok-lowered.ensures.same c.if-not-lowered.true) in
+    omega (arith, same, c.sweeps.invariant.swept)
 
 pub transit-requires : goal.transit-requires
 transit-requires c =
@@ -51,6 +57,8 @@ sweeps-init c =
       clean = λ q within none.
           let all : is_member c.everyone-dirty.result q ≡ true = ap (λ set. is_member set q) c.everyone-dirty.ensures ∙ get_or-replicate MOST_PROCESSES q true false (omega (arith, within, c.n-n.ensures.limits.few)) in
           absurd (false≢true (sym none ∙ all));
+      due = λ q within there. inl c.new-certificate.ensures.items;
+      swept = ap (λ (es : List Passed). sweeps_with_entries es) c.new-certificate.ensures.items;
       few = omega arith;
       paid = omega (arith, c.new-certificate.ensures.len, ap (height history) c.first_ceilings-line.ensures);
     }

@@ -1,7 +1,8 @@
-use Rattle.std.proofs.Common.{◌≡◌, false, vec_len}
+use Rattle.std.proofs.Common.{◌≡◌, false, length, vec_len}
 use Rattle.line_tape.specs.Chain.{IsLed}
 use Rattle.line_vectors.specs.Reach.{sents_of}
 use Rattle.line_plan.specs.Search.{IsMoved, AreSentBelow, AreClean}
+use Rattle.line_plan.specs.Sweeps.{IsSweeping}
 use Rattle.line_plan.proofs.planner.sweep.Given as goal
 
 abbrev pub invariant-loop-q : goal.invariant-loop-q
@@ -10,5 +11,6 @@ invariant-loop-q l = record {
   sent : l.sent ≡ sents_of l.catalogue.processes l.line;
   clean : AreClean l.catalogue.processes l.line l.dirty;
   moved : IsMoved l.catalogue.processes l.initial.line (vec_len l.initial.certificate) l.lowered l.line (vec_len l.certificate);
+  sweeping : IsSweeping (length l.catalogue.processes) l.initial.certificate.items l.q l.lowered l.certificate.items l.dirty;
   none : l.lowered ≡ false → AreSentBelow l.catalogue.processes l.line l.q;
 }

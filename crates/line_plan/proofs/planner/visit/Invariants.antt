@@ -3,6 +3,7 @@ use Rattle.line_vectors.specs.Reach.{sents_of}
 use Rattle.line_tape.specs.Height.{height}
 use Rattle.line_tape.specs.Chain.{IsLed}
 use Rattle.line_plan.specs.Search.{AreFirstSent, IsMoved, IsSameBut}
+use Rattle.line_plan.specs.Sweeps.{HasPassed}
 use Rattle.line_plan.proofs.planner.visit.Given as goal
 
 abbrev pub invariant-orphans : goal.invariant-orphans
@@ -11,6 +12,7 @@ invariant-orphans l = record {
   sent : l.sent ≡ sents_of l.catalogue.processes l.line;
   alone : IsSameBut l.initial.line l.line l.at;
   moved : IsMoved l.catalogue.processes l.initial.line (vec_len l.initial.certificate) l.lowered l.line (vec_len l.certificate);
+  passed : HasPassed l.at l.lowered l.initial.certificate.items l.certificate.items;
   few : l.clear ≤ length l.catalogue.processes;
   clear : AreFirstSent l.catalogue.processes l.line l.at l.clear;
 }

@@ -5,7 +5,7 @@ use Rattle.clap.specs.Words.{IsAmong, Row, Text}
 use Rattle.clap.specs.declared.error.kind.ErrorKind.{ErrorKind}
 use Rattle.clap.specs.declared.error.kind.ErrorKind.TheVariants as errors
 use Rattle.line_words.specs.declared.jobs.Job.{Job}
-use Rattle.line_words.specs.declared.jobs.Job.TheVariants.{Check, Drill, Run, Serve}
+use Rattle.line_words.specs.declared.jobs.Job.TheVariants.{Check, Collect, Drill, Run, Serve}
 use Rattle.line_words.specs.declared.faults.WordsFault.{WordsFault}
 use Rattle.line_words.specs.declared.faults.WordsFault.TheVariants as faults
 use Rattle.line_words.specs.Words.{HasCause, IsAskedBy, IsJobInRange, IsToldAs, refusals_of}
@@ -30,6 +30,7 @@ asked_in_range : (asked : Option (Text × List Row)) (job : Job) → IsSomeAnd a
 asked_in_range None job is = absurd is
 asked_in_range (Some asked) Run is = tt
 asked_in_range (Some asked) Serve is = tt
+asked_in_range (Some asked) Collect is = tt
 asked_in_range (Some asked) Check is = tt
 asked_in_range (Some asked) (Drill workers rounds) is = (is.1.no_less, is.1.no_more, is.2.no_less, is.2.no_more)
 

@@ -11,6 +11,10 @@ pub returns-clause-serve : goal.returns-clause-serve
 unfolding clap_on_literals
 returns-clause-serve c = (refl, refl)
 
+pub returns-clause-collect : goal.returns-clause-collect
+unfolding clap_on_literals
+returns-clause-collect c = (refl, refl)
+
 pub returns-clause-check : goal.returns-clause-check
 unfolding clap_on_literals
 returns-clause-check c = (refl, refl)

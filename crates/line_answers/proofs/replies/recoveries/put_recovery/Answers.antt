@@ -1,4 +1,4 @@
-use Rattle.std.proofs.Common.{◌++◌, List, length, refl}
+use Rattle.std.proofs.Common.{◌++◌, ℕ, List, length, refl}
 use Rattle.line_devices.proofs.OutputLemmas.{outputs_front, outputs_on}
 use Rattle.line_fields.proofs.OutletLemmas.{both_texts}
 use Rattle.line_fields.specs.Records.{Record}
@@ -7,20 +7,20 @@ use Rattle.line_plan.specs.declared.plans.Plan.{Plan}
 use Rattle.line_answers.specs.Replies.{process_records, pass_records, recovered_record, replay_records}
 use Rattle.line_answers.proofs.replies.recoveries.put_recovery.Goals as goal
 
-abbrev head : Plan → Record
-head plan = recovered_record plan.sweeps (length plan.certificate.items) (length plan.replays.items)
+abbrev head : List ℕ → Plan → Record
+head word plan = recovered_record word plan.sweeps (length plan.certificate.items) (length plan.replays.items)
 
 abbrev rest : Plan → List Record
 rest plan = pass_records plan.certificate.items ++ replay_records plan.replays.items
 
 pub returns-in_err-put_numbers : goal.returns-in_err-put_numbers
 returns-in_err-put_numbers g c =
-    outputs_front _ _ _ _ (record_text (head c.args.plan.now)) (records_text (process_records c.args.plan.now.line c.args.incarnations.now.items c.args.states.now.items ++ rest c.args.plan.now)) _ refl
+    outputs_front _ _ _ _ (record_text (head c.args.word.now c.args.plan.now)) (records_text (process_records c.args.plan.now.line c.args.incarnations.now.items c.args.states.now.items ++ rest c.args.plan.now)) _ refl
     (rw (c.as_slice-entries.ensures.value, c.as_slice-replays.ensures.value) at c.in_err-put_numbers.ensures) c.from_residual.ensures.1
 
 pub returns-in_err-put_lines : goal.returns-in_err-put_lines
 returns-in_err-put_lines g c =
-    outputs_on _ (record_text (head c.args.plan.now)) (records_text (process_records c.args.plan.now.line c.args.incarnations.now.items c.args.states.now.items ++ rest c.args.plan.now)) _ refl
+    outputs_on _ (record_text (head c.args.word.now c.args.plan.now)) (records_text (process_records c.args.plan.now.line c.args.incarnations.now.items c.args.states.now.items ++ rest c.args.plan.now)) _ refl
     (rw (c.as_slice-entries.ensures.value, c.as_slice-replays.ensures.value) at c.in_ok-put_numbers.ensures)
     (outputs_front _ _ _ _ (records_text (process_records c.args.plan.now.line c.args.incarnations.now.items c.args.states.now.items)) (records_text (rest c.args.plan.now)) _
     (both_texts (process_records c.args.plan.now.line c.args.incarnations.now.items c.args.states.now.items) (rest c.args.plan.now))
@@ -28,7 +28,7 @@ returns-in_err-put_lines g c =
 
 pub returns-in_err-put_passes : goal.returns-in_err-put_passes
 returns-in_err-put_passes g c =
-    outputs_on _ (record_text (head c.args.plan.now)) (records_text (process_records c.args.plan.now.line c.args.incarnations.now.items c.args.states.now.items ++ rest c.args.plan.now)) _ refl
+    outputs_on _ (record_text (head c.args.word.now c.args.plan.now)) (records_text (process_records c.args.plan.now.line c.args.incarnations.now.items c.args.states.now.items ++ rest c.args.plan.now)) _ refl
     (rw (c.as_slice-entries.ensures.value, c.as_slice-replays.ensures.value) at c.in_ok-put_numbers.ensures)
     (outputs_on _ (records_text (process_records c.args.plan.now.line c.args.incarnations.now.items c.args.states.now.items)) (records_text (rest c.args.plan.now)) _
     (both_texts (process_records c.args.plan.now.line c.args.incarnations.now.items c.args.states.now.items) (rest c.args.plan.now))
@@ -39,7 +39,7 @@ returns-in_err-put_passes g c =
 
 pub returns : goal.returns
 returns g c =
-    outputs_on _ (record_text (head c.args.plan.now)) (records_text (process_records c.args.plan.now.line c.args.incarnations.now.items c.args.states.now.items ++ rest c.args.plan.now)) _ refl
+    outputs_on _ (record_text (head c.args.word.now c.args.plan.now)) (records_text (process_records c.args.plan.now.line c.args.incarnations.now.items c.args.states.now.items ++ rest c.args.plan.now)) _ refl
     (rw (c.as_slice-entries.ensures.value, c.as_slice-replays.ensures.value) at c.in_ok-put_numbers.ensures)
     (outputs_on _ (records_text (process_records c.args.plan.now.line c.args.incarnations.now.items c.args.states.now.items)) (records_text (rest c.args.plan.now)) _
     (both_texts (process_records c.args.plan.now.line c.args.incarnations.now.items c.args.states.now.items) (rest c.args.plan.now))

@@ -5,7 +5,7 @@ use Rattle.line_tape.specs.declared.events.Event.TheVariants.{Check, Mark}
 use Rattle.line_tape.specs.Event.{checks}
 use Rattle.line_tape.specs.History.{Process, tape_at, with_event}
 use Rattle.line_tape.specs.Rounds.{has_check_of}
-use Rattle.line_turns.specs.Turning.{TurningView, IsTurning}
+use Rattle.line_colours.specs.Turning.{TurningView, IsTurning}
 use Rattle.line_moves.specs.Openings.{OpenView, marker_at, AreMarkers, IsRecording}
 use Rattle.line_moves.proofs.OpenFacts.{IsRecording-forced, own_marker}
 use Rattle.line_moves.proofs.RecordingLemmas.{recorded_none}

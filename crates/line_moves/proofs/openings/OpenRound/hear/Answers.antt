@@ -6,7 +6,7 @@ use Rattle.line_marker.specs.Recording.{MarkerView, RecordedRound, channel_at, r
 use Rattle.line_tape.specs.declared.events.Event.TheVariants.{Mark}
 use Rattle.line_tape.specs.History.{Process, tape_at, with_event}
 use Rattle.line_tape.specs.Rounds.{has_check_of}
-use Rattle.line_turns.specs.Turning.{TurningView}
+use Rattle.line_colours.specs.Turning.{TurningView}
 use Rattle.line_moves.specs.Openings.{OpenView, marker_at, AreMarkers, IsRecording}
 use Rattle.line_moves.proofs.OpenFacts.{IsRecording-heard, IsRecording-repeated, own_marker}
 use Rattle.line_moves.proofs.RecordingLemmas.{recorded_round, recorded_there}

@@ -9,7 +9,7 @@ use Rattle.line_laws.proofs.CompletionLemmas.{completed_closed, completed_from}
 use Rattle.line_moves.specs.Openings.{OpenView, IsRecording}
 use Rattle.line_moves.proofs.OpenFacts.{closed_is}
 use Rattle.line_moves.proofs.ToComeLemmas.{none_to_come}
-use Rattle.line_turns.specs.Turning.{TurningView}
+use Rattle.line_colours.specs.Turning.{TurningView}
 use Rattle.line_moves.proofs.openings.OpenRound.is_completed.Goals as goal
 
 pub each-preserved : goal.each-preserved

@@ -3,7 +3,7 @@ use Rattle.std.proofs.Common.{◌≡◌, ◌+◌, ℕ, ◌++◌, Bool, List, len
 use Rattle.line_tape.specs.declared.events.Event.{Event}
 use Rattle.line_tape.specs.declared.items.Item.TheVariants.{Marker}
 use Rattle.std.specs.Prelude.{nat_lt, slice_get}
-use Rattle.line_turns.specs.Tables.{between}
+use Rattle.line_colours.specs.Tables.{between}
 use Rattle.line_tape.specs.declared.limits.TheConstants.{MOST_EVENTS}
 use Rattle.line_tape.specs.History.{Process, tape_at}
 use Rattle.line_tape.specs.Rounds.{has_check_of}

@@ -15,7 +15,7 @@ use Rattle.line_steps.specs.declared.steps.Step.TheVariants.{Recover}
 use Rattle.line_steps.specs.declared.modes.Mode.{Mode}
 use Rattle.line_world.specs.Machine.{Machine}
 use Rattle.line_moves.specs.Modes.{copies_in}
-use Rattle.line_turns.specs.Tables.{between}
+use Rattle.line_colours.specs.Tables.{between}
 use Rattle.line_world.specs.declared.worlds.World.TheInside.{Inside}
 use Rattle.line_world.specs.Protocols.{mode_of, open_round_of, IsFollowing}
 use Rattle.line_world.proofs.KnownFacts.{kept_with}

@@ -1,6 +1,6 @@
 -- A process may turn to the round that is kept as open if it has no check of it.
 use Rattle.std.proofs.Common.{Option, Some, None, sym, ap, ◌∙◌, subst}
-use Rattle.line_turns.specs.Turning.{TurningView}
+use Rattle.line_colours.specs.Turning.{TurningView}
 use Rattle.line_steps.specs.declared.modes.Mode.TheVariants.{Unordered}
 use Rattle.line_moves.specs.Openings.{opened_turning}
 use Rattle.line_moves.specs.Worlds.{AreRounds}

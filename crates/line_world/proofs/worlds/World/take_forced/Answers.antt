@@ -8,9 +8,9 @@ use Rattle.line_tape.specs.declared.items.Item.TheVariants.{Message}
 use Rattle.line_tape.specs.declared.limits.TheConstants.{MOST_EVENTS}
 use Rattle.line_tape.specs.Event.{Holds}
 use Rattle.line_tape.specs.History.{Process, tape_at, with_event}
-use Rattle.line_turns.specs.Kept.{ProcessTurns, AreTurned}
-use Rattle.line_turns.specs.Turning.{TurningView}
-use Rattle.line_turns.proofs.FlagLemmas.{AreFlagged-other}
+use Rattle.line_colours.specs.Kept.{ProcessTurns, AreTurned}
+use Rattle.line_colours.specs.Turning.{TurningView}
+use Rattle.line_colours.proofs.FlagLemmas.{AreFlagged-other}
 use Rattle.line_moves.specs.declared.fates.Fate.{Fate}
 use Rattle.line_moves.specs.declared.fates.Fate.TheVariants.{Taken as IsTaken}
 use Rattle.line_steps.specs.declared.modes.Mode.TheVariants.{Unordered}

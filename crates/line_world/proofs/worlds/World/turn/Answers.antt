@@ -3,8 +3,8 @@ use Rattle.std.proofs.Common.{◌≡◌, ℕ, Bool, List, [], ◌∷◌, Some, N
 use Rattle.line_tape.specs.declared.events.Event.{Event}
 use Rattle.line_tape.specs.declared.events.Event.TheVariants.{Check as CheckEvent}
 use Rattle.line_tape.specs.History.{Process, with_event}
-use Rattle.line_turns.specs.Kept.{ProcessTurns, AreTurned}
-use Rattle.line_turns.proofs.FlagLemmas.{AreFlagged-other}
+use Rattle.line_colours.specs.Kept.{ProcessTurns, AreTurned}
+use Rattle.line_colours.proofs.FlagLemmas.{AreFlagged-other}
 use Rattle.line_steps.specs.declared.modes.Mode.TheVariants.{Unordered}
 use Rattle.line_moves.specs.Listed.{ListedRound, newly_listed}
 use Rattle.line_moves.specs.Openings.{newly_closed, opened_by, IsListedOrOpen}

@@ -1,0 +1,53 @@
+-- One event more is passed.
+use Rattle.std.proofs.Common.{◌≡◌, ℕ, ◌+◌, ◌∷◌, List, true, false, Some, refl, sym, ap, ◌∙◌, subst}
+use Rattle.std.specs.Prelude.{not}
+use Rattle.line_names.specs.declared.choices.Choice.{Choice}
+use Rattle.line_tape.specs.declared.events.EventRef.{EventRef}
+use Rattle.line_tape.specs.History.{Process}
+use Rattle.line_tape.specs.Shown.{event_of_ref}
+use Rattle.line_check.specs.declared.answers.Replay.{Replay}
+use Rattle.line_check.specs.Answers.{is_unreceived}
+use Rattle.line_check.proofs.CursorLemmas.{left_at, sent_there, skip-left, send-left}
+use Rattle.line_check.proofs.cursors.take_event.Goals as goal
+
+pub returns-in-Recv-clause-left : goal.returns-in-Recv-clause-left
+returns-in-Recv-clause-left c =
+    let history : List Process = c.args.history.now.processes in
+    let line : List Choice = c.args.line.now in
+    subst (λ (q : ℕ). left_at history line q c.args.cursor.now.number c.args.cursor.now.place ≡ left_at history line q c.args.cursor.now.number (c.args.cursor.now.place + 1)) (sym c.requires.process)
+    (skip-left history line c.args.p c.args.cursor.now.number c.args.cursor.now.place c.args.events.now _ c.requires.events (c.at-event.ensures ∙ ap (λ (e : EventRef). Some (event_of_ref e)) c.in-Recv.is) (λ rest. refl))
+
+pub returns-in-Check-clause-left : goal.returns-in-Check-clause-left
+returns-in-Check-clause-left c =
+    let history : List Process = c.args.history.now.processes in
+    let line : List Choice = c.args.line.now in
+    subst (λ (q : ℕ). left_at history line q c.args.cursor.now.number c.args.cursor.now.place ≡ left_at history line q c.args.cursor.now.number (c.args.cursor.now.place + 1)) (sym c.requires.process)
+    (skip-left history line c.args.p c.args.cursor.now.number c.args.cursor.now.place c.args.events.now _ c.requires.events (c.at-event.ensures ∙ ap (λ (e : EventRef). Some (event_of_ref e)) c.in-Check.is) (λ rest. refl))
+
+pub returns-in-Mark-clause-left : goal.returns-in-Mark-clause-left
+returns-in-Mark-clause-left c =
+    let history : List Process = c.args.history.now.processes in
+    let line : List Choice = c.args.line.now in
+    subst (λ (q : ℕ). left_at history line q c.args.cursor.now.number c.args.cursor.now.place ≡ left_at history line q c.args.cursor.now.number (c.args.cursor.now.place + 1)) (sym c.requires.process)
+    (skip-left history line c.args.p c.args.cursor.now.number c.args.cursor.now.place c.args.events.now _ c.requires.events (c.at-event.ensures ∙ ap (λ (e : EventRef). Some (event_of_ref e)) c.in-Mark.is) (λ rest. refl))
+
+pub returns-then-is_received-clause-left : goal.returns-then-is_received-clause-left
+returns-then-is_received-clause-left c =
+    let history : List Process = c.args.history.now.processes in
+    let line : List Choice = c.args.line.now in
+    let number : ℕ = c.args.cursor.now.number in
+    let place : ℕ = c.args.cursor.now.place in
+    let received : is_unreceived history line (sent_there history line c.args.p number place c.in-Send.to c.in-Send.inc c.in-Send.body.now) ≡ false = ap not (sym c.is_received.ensures ∙ c.if-is_received.true) in
+    subst (λ (q : ℕ). left_at history line q number place ≡ left_at history line q (number + 1) (place + 1)) (sym c.requires.process)
+    (send-left history line c.args.p number place c.args.events.now c.in-Send.to c.in-Send.inc c.in-Send.body.now false c.requires.events (c.at-event.ensures ∙ ap (λ (e : EventRef). Some (event_of_ref e)) c.in-Send.is) received)
+
+pub returns-else-is_received-clause-left : goal.returns-else-is_received-clause-left
+returns-else-is_received-clause-left c =
+    let history : List Process = c.args.history.now.processes in
+    let line : List Choice = c.args.line.now in
+    let number : ℕ = c.args.cursor.now.number in
+    let place : ℕ = c.args.cursor.now.place in
+    let sent : Replay = sent_there history line c.args.p number place c.in-Send.to c.in-Send.inc c.in-Send.body.now in
+    let unreceived : is_unreceived history line sent ≡ true = ap not (sym c.is_received.ensures ∙ c.if-is_received.false) in
+    subst (λ (q : ℕ). left_at history line q number place ≡ sent ∷ left_at history line q (number + 1) (place + 1)) (sym c.requires.process)
+    (send-left history line c.args.p number place c.args.events.now c.in-Send.to c.in-Send.inc c.in-Send.body.now true c.requires.events (c.at-event.ensures ∙ ap (λ (e : EventRef). Some (event_of_ref e)) c.in-Send.is) unreceived)

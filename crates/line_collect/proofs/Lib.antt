@@ -1,0 +1,6 @@
+mod AnswerLemmas
+mod CutLemmas
+mod EventLemmas
+mod LawLemmas
+mod LiveLemmas
+mod OrderLemmas

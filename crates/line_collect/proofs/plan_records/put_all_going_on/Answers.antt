@@ -1,0 +1,28 @@
+use Rattle.std.proofs.Common.{◌<◌, ◌≤◌, ℕ, length, arith}
+use Rattle.line_devices.proofs.OutputLemmas.{out_all, out_front, out_more, out_none}
+use Rattle.line_fields.specs.Records.{Record}
+use Rattle.line_fields.proofs.OutletLemmas.{no_number_left, number_left}
+use Rattle.line_collect.specs.Answers.{going_on_record}
+use Rattle.line_collect.proofs.plan_records.put_all_going_on.Goals as goal
+
+pub loop-p-init : goal.loop-p-init
+loop-p-init g c = out_none _ _ _ _
+
+pub loop-p-preserved : goal.loop-p-preserved
+loop-p-preserved g c =
+    let f : ℕ → Record = going_on_record c.args.history.now.processes c.args.line.now in
+    let lt : c.loop-p.p < length c.args.history.now.processes = omega (arith, c.n-n.ensures.value) in
+    let next = number_left f (length c.args.history.now.processes) c.loop-p.p lt in
+    out_more _ _ next c.loop-p.invariant (rw c.in-Ok.ensures.1 at c.in_ok-put_going_on.ensures)
+
+pub returns-in_err-put_going_on : goal.returns-in_err-put_going_on
+returns-in_err-put_going_on g c =
+    let f : ℕ → Record = going_on_record c.args.history.now.processes c.args.line.now in
+    let lt : c.loop-p.p < length c.args.history.now.processes = omega (arith, c.n-n.ensures.value) in
+    let next = number_left f (length c.args.history.now.processes) c.loop-p.p lt in
+    out_front _ _ _ _ _ next c.loop-p.invariant (rw c.in-Ok.ensures.1 at c.in_err-put_going_on.ensures) c.from_residual.ensures.1
+
+pub returns : goal.returns
+returns g c =
+    let le : length c.args.history.now.processes ≤ c.loop-p.p = omega (arith, c.n-n.ensures.value) in
+    out_all tt (no_number_left (going_on_record c.args.history.now.processes c.args.line.now) (length c.args.history.now.processes) c.loop-p.p le) c.loop-p.invariant

@@ -1,0 +1,7 @@
+pub mod Answers
+pub mod Collecting
+pub mod Collections
+pub mod Laws
+pub mod Orders
+pub mod Refusals
+pub mod Writing

@@ -1,0 +1,22 @@
+//! `recline collect`: reports of what processes did come in any order between processes, and lines
+//! are planned from what has come.
+#![tactic(auto)]
+
+mod answerers;
+mod answering;
+mod collections;
+mod laws;
+mod plan_records;
+mod refusals;
+mod tellings;
+
+pub use answerers::collect;
+pub use collections::Collection;
+pub use laws::{
+    cut_messages_are_not_received, faults_and_refusals_change_nothing,
+    histories_follow_each_process, live_lines_stay_consistent,
+    reports_in_pieces_are_answered_alike,
+};
+pub use line_conversations::{MOST_LINE, Outcome, ServeError};
+pub use refusals::CollectError;
+pub use tellings::Told;

@@ -1,0 +1,12 @@
+pub mod TurnedLemmas
+pub mod TurningLemmas
+pub mod TableLemmas
+pub mod ChannelLemmas
+pub mod CompletedLemmas
+pub mod NameLemmas
+pub mod InboxLemmas
+pub mod GatherLemmas
+pub mod SameLemmas
+pub mod FlagLemmas
+pub mod CutFlagLemmas
+pub mod ColourLemmas

@@ -1,0 +1,10 @@
+pub mod LineLemmas
+pub mod AllowedLemmas
+pub mod HeardLemmas
+pub mod PieceLemmas
+pub mod TextLemmas
+pub mod TurnLemmas
+pub mod FeedLemmas
+pub mod ByteLemmas
+pub mod RecordLemmas
+pub mod PlainLemmas

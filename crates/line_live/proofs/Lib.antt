@@ -1,0 +1,5 @@
+pub mod AddedLemmas
+pub mod MarkedCuts
+pub mod FloorLemmas
+pub mod SameLemmas
+pub mod WholeLemmas

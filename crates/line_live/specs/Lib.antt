@@ -1,0 +1,3 @@
+pub mod Floors
+pub mod Left
+pub mod Marks

@@ -1,0 +1,15 @@
+pub mod ListLemmas
+pub mod CauseLemmas
+pub mod ListingCuts
+pub mod EventLives
+pub mod CheckLives
+pub mod SendLives
+pub mod BeginLives
+pub mod PickedItems
+pub mod DeliverLives
+pub mod MarkLives
+pub mod RestartCuts
+pub mod RecoverLives
+pub mod StepLives
+pub mod TwoForgets
+pub mod LaterLives

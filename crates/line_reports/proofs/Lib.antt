@@ -1,0 +1,3 @@
+pub mod FailedLemmas
+pub mod NameLemmas
+pub mod RangeLemmas

@@ -1,6 +1,0 @@
-pub mod Kept
-pub mod Turning
-pub mod Tables
-pub mod Channels
-pub mod Inboxes
-pub mod Flags
