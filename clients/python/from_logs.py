@@ -1,5 +1,5 @@
-#!/usr/bin/env python3
-"""Makes a script for recline of the logs of a computation.
+#!/usr/bin/env -S sh -c '[ -d /dev/stdin ] && exec 0<&-; exec python3 "$0" "$@"'
+"""Makes a script for recline, or with --reports an input of `recline collect`, of logs.
 
 Logs are JSON Lines, of one process each or of several, or standard input where none is named.
 docs/LOGS.md says what their lines have. The lines of a process are in one log, in their order. The
@@ -8,6 +8,7 @@ which lines are read, one of each log in turn. Where a log is not sound, standar
 line, `FILE:LINE: CAUSE`, the status is 2, and there is no script. The status is 3 where a file
 cannot be read or written, and 130 after an interrupt.
 """
+# Python does not even start where standard input is a directory: so it is closed before, above.
 
 import argparse
 import collections
@@ -16,12 +17,13 @@ import errno
 import os
 import sys
 import time
-from collections.abc import Sequence
+from collections.abc import Callable, Sequence
 from typing import BinaryIO, TextIO
 
 sys.dont_write_bytecode = True  # leaves nothing beside the scripts
 
 from log_lines import Log, Unsound
+from log_reports import Reporting
 from log_scripts import MOST_PROCESSES, Making
 
 MOST_OF_RUN = 67_108_864  # bytes of a script that `recline run` takes
@@ -37,10 +39,10 @@ def say(text: str) -> None:
             sys.stderr.flush()
 
 
-def bytes_of(file: TextIO | None, name: str) -> BinaryIO:
-    """The bytes of a standard file. One that was closed is none."""
+def bytes_of(file: TextIO | None, name: str, what_not: str) -> BinaryIO:
+    """The bytes of a standard file, or what it is where it has none."""
     if file is None:
-        raise OSError(errno.EBADF, os.strerror(errno.EBADF), name)
+        raise OSError(errno.EBADF, what_not, name)
     return file.buffer
 
 
@@ -65,18 +67,29 @@ class Progress:
 
 
 def read(logs: Sequence[Log], making: Making, progress: Progress) -> None:
-    """Takes the lines of the logs, one of each in turn."""
+    """Takes the lines of the logs, one of each in turn; for reports they are noted before."""
+    if isinstance(making, Reporting):
+        read_once(logs, making.note, progress)
+        for log in logs:
+            log.rewind()
+    read_once(logs, making.take, progress)
+    making.test_end()
+
+
+def read_once(
+    logs: Sequence[Log], take: Callable[[Log, int, bytes], None], progress: Progress
+) -> None:
+    """Reads the logs once, a line of each in turn."""
     turn, lines, size = collections.deque(logs), 0, sum(log.size for log in logs)
     while turn:
         log = turn.popleft()
         place, line = log.read, log.next()
         if line:
-            making.take(log, place, line)
+            take(log, place, line)
             turn.append(log)
         lines += 1
         if lines % 1_024 == 0:
             progress.tell(lines, sum(it.read for it in logs), size)
-    making.test_end()
 
 
 def words() -> argparse.Namespace:
@@ -94,6 +107,11 @@ def words() -> argparse.Namespace:
                       help="how many there are, 1 to 256; else as many as the logs name")
     line.add_argument("--failed", action="append", default=[], metavar="PROCESS",
                       help="end the script with a recovery in which this one failed (repeatable)")
+    line.add_argument("--lost-tail", action="append", default=[], metavar="PROCESS",
+                      help="the last lines of this one are lost with its machine: it failed, and "
+                      "what others received of it is kept (repeatable)")
+    line.add_argument("--reports", action="store_true",
+                      help="write an input of recline collect, in no order between logs")
     line.add_argument("--names", metavar="FILE",
                       help="write how recline calls the processes and messages to FILE")
     line.add_argument("--shorten", action="store_true",
@@ -106,16 +124,18 @@ def words() -> argparse.Namespace:
 
 def made(asked: argparse.Namespace, files: contextlib.ExitStack) -> int:
     """Reads, and writes where all is sound."""
-    output = bytes_of(sys.stdout, "standard output")
+    output = bytes_of(sys.stdout, "standard output", "it is closed")
     logs = [Log(name, open(name, "rb")) for name in asked.logs]
-    logs = logs or [Log("standard input", bytes_of(sys.stdin, "standard input"))]
+    name = "standard input"
+    logs = logs or [Log(name, bytes_of(sys.stdin, name, "it is closed, or a directory"))]
     for log in logs:
         files.callback(log.close)
-    making, progress = Making(asked.links, asked.processes, asked.shorten), Progress()
+    kind, progress = Reporting if asked.reports else Making, Progress()
+    making = kind(asked.links, asked.processes, asked.shorten, asked.lost_tail)
     files.enter_context(making.script)
     try:
         read(logs, making, progress)
-        failed = [making.failed(name) for name in asked.failed]
+        failed = [making.failed(name) for name in (*asked.failed, *asked.lost_tail)]
     except Unsound as unsound:
         where = "from_logs"
         if unsound.log:
@@ -129,7 +149,11 @@ def made(asked: argparse.Namespace, files: contextlib.ExitStack) -> int:
         with open(asked.names, "w", encoding="utf-8") as file:
             making.write_names(file)
     length = making.write(output, failed)
-    if length > MOST_OF_RUN:
+    if making.kept:
+        what = "receipt is" if making.kept == 1 else "receipts are"
+        lost = ", ".join(asked.lost_tail)
+        say(f"from_logs: {making.kept} {what} kept of messages whose sends are lost, by {lost}\n")
+    if length > MOST_OF_RUN and not asked.reports:
         say(f"from_logs: {length} bytes: too long for recline run, not for serve\n")
     return 0
 
@@ -137,8 +161,12 @@ def made(asked: argparse.Namespace, files: contextlib.ExitStack) -> int:
 def main() -> int:
     """The status."""
     try:
-        with contextlib.ExitStack() as files:
-            return made(words(), files)
+        asked = words()
+        files = contextlib.ExitStack()
+        try:
+            return made(asked, files)
+        finally:
+            files.close()
     except OSError as error:
         file = f"{error.filename}: " if error.filename else ""
         say(f"from_logs: {file}{error.strerror}\n")

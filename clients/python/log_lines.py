@@ -2,14 +2,18 @@
 
 from __future__ import annotations
 
+import codecs
+import contextlib
 import json
 import os
-import shutil
+import select
 import stat
 import tempfile
+from collections.abc import Iterator
 from typing import IO, Any
 
 MOST_LINE = 1_048_576  # bytes of a line
+PIECE = 65_536  # bytes that are read at once
 WINDOW = 16_384  # bytes that are read where a line is read again
 
 Event = dict[str, Any]
@@ -24,6 +28,16 @@ class Unsound(Exception):
         self.cause, self.log, self.place = cause, log, place
 
 
+@contextlib.contextmanager
+def naming(name: str) -> Iterator[None]:
+    """Has an error of the system say which input it is of."""
+    try:
+        yield
+    except OSError as error:
+        error.filename = name
+        raise
+
+
 class Log:
     """An input. What cannot be read twice from its beginning is copied to a file first."""
 
@@ -31,16 +45,39 @@ class Log:
         self.name, self._file = name, file
         if not stat.S_ISREG(os.fstat(file.fileno()).st_mode) or file.tell():
             self._file = tempfile.TemporaryFile()
-            shutil.copyfileobj(file, self._file)
-            file.close()
+            with file:
+                self._copy(file.fileno())
             self._file.seek(0)
+        with naming(name):
+            os.pread(self._file.fileno(), 1, 0)
         self.size = os.fstat(self._file.fileno()).st_size
         self.read = 0  # the place of the next line
         self._window, self._start = b"", 0
 
+    def _copy(self, file: int) -> None:
+        """Copies a file to its end, or to a line that is too long, as all of /dev/zero is."""
+        length = 0  # of the line that has begun
+        while length <= MOST_LINE and (piece := self._piece(file)):
+            self._file.write(piece)
+            whole = piece.rfind(b"\n") + 1
+            length = len(piece) - whole if whole else length + len(piece)
+
+    def _piece(self, file: int) -> bytes:
+        """More of a file, b"" at its end. One that does not wait is waited for."""
+        with naming(self.name):
+            while True:
+                with contextlib.suppress(BlockingIOError):
+                    return os.read(file, PIECE)
+                select.select([file], [], [])
+
     def close(self) -> None:
         """Lets the file go, and a copy of it too."""
         self._file.close()
+
+    def rewind(self) -> None:
+        """Goes back to its beginning."""
+        self._file.seek(0)
+        self.read = 0
 
     def next(self) -> bytes:
         """The next line, b"" at the end."""
@@ -74,7 +111,7 @@ def event_of(line: bytes) -> Event | None:
     if len(line) > MOST_LINE:
         raise Unsound(f"a line of more than {MOST_LINE} bytes")
     try:
-        text = line.decode().strip()
+        text = line.removeprefix(codecs.BOM_UTF8).decode().strip()
         if not text:
             return None
         event, end = decoder.raw_decode(text)

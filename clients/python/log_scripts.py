@@ -64,8 +64,11 @@ def unpacked(message: int) -> tuple[int, int, int, int]:
 class Making:
     """A script that is made of events, one by one."""
 
-    def __init__(self, links: str, processes: int | None, is_shortened: bool) -> None:
+    def __init__(
+        self, links: str, processes: int | None, is_shortened: bool, lost: Sequence[str] = ()
+    ) -> None:
         self.links, self.asked, self.is_shortened = links, processes, is_shortened
+        self.lost, self.kept = lost, 0  # whose last lines are lost, and the sends put in for them
         self.script: IO[bytes] = tempfile.TemporaryFile()  # all but its first and last record
         self.processes: dict[str, Process] = {}  # by name
         self.are_numbered: bool | None = None  # whether their names are their numbers
@@ -169,13 +172,16 @@ class Making:
         to = self.process(event, "to")
         if to is process:
             raise Unsound(f"message {named(name)} is sent to its own sender")
-        body = self.hex_of(event.get("body"), "body", MOST_BODY)
+        self.put_send(process, to, name, self.hex_of(event.get("body"), "body", MOST_BODY))
+        return None
+
+    def put_send(self, process: Process, to: Process, name: bytes, body: str) -> None:
+        """Writes a send, whose receipt need wait no more."""
         self.put(process, 1, f"send,{process.number},{to.number},{body}\n")
         link = self.way(process, to)
         self.messages[name] = packed(process.number, to.number, link.sent, process.round)
         link.sent += 1
         self.release(name)
-        return None
 
     def receive(self, process: Process, event: Event) -> Awaited | None:
         """A message is received, which waits until it is sent."""
@@ -343,8 +349,53 @@ class Making:
                 raise Unsound(unsound.cause, process.log, place) from None
             yield place, event
 
+    # Logs whose last lines are lost.
+
+    def lost_sender(self, event: Event) -> Process | None:
+        """Who has sent a message that no line sends: a process whose last lines are lost."""
+        receiver = self.process(event, "process")
+        found = [self.process({"process": name}, "process") for name in self.lost]
+        lost = [it for it in found if it is not receiver]
+        if "from" in event:
+            sender = self.process(event, "from")
+            return sender if sender in lost else None
+        if len(lost) > 1:
+            raise Unsound("the last lines of several processes are lost: say `from` whom it came")
+        return lost[0] if lost else None
+
+    def sends_in_queues(self) -> set[bytes]:
+        """The messages that events which wait would send."""
+        return {
+            str(event.get("message")).encode("utf-8", "surrogatepass")
+            for process in self.processes.values() if process.awaits is not None
+            for _, event in self.waited(process) if event.get("event") == "send"
+        }
+
+    def put_lost_sends(self) -> None:
+        """Has those whose last lines are lost send, after all that they did, what was received."""
+        queued = self.sends_in_queues() if self.lost else set()
+        is_done = not self.lost
+        while not is_done:
+            is_done = True
+            for process in list(self.processes.values()):
+                name = process.awaits
+                if not isinstance(name, bytes) or name in queued:
+                    continue
+                place, event = next(self.waited(process))
+                try:
+                    sender = self.lost_sender(event)
+                    if sender is None or sender.awaits is not None:
+                        continue
+                    self.put_send(sender, process, name, "")
+                except Unsound as unsound:
+                    raise Unsound(unsound.cause, process.log, place) from None
+                self.kept, is_done = self.kept + 1, False
+                while self.ready:
+                    self.go_on(self.ready.popleft())
+
     def test_end(self) -> None:
-        """Nothing may wait at the end of the logs."""
+        """Nothing may wait at the end of the logs, once what lost lines have sent is put in."""
+        self.put_lost_sends()
         stuck = [it for it in self.processes.values() if it.awaits is not None]
         awaited, sends = {it.awaits for it in stuck}, dict[Awaited, str]()
         for process in stuck:
@@ -371,11 +422,15 @@ class Making:
 
     # What is written.
 
+    def first_record(self, version: int, processes: int) -> str:
+        """The first record."""
+        return f"world,{version},{processes},{self.links}\n"
+
     def write(self, output: IO[bytes], failed: Sequence[int]) -> int:
         """Writes the script, and answers its length in bytes."""
         processes = self.count()
         version = 1 if processes <= MOST_IN_FIRST_VERSION else 2
-        first = f"world,{version},{processes},{self.links}\n".encode()
+        first = self.first_record(version, processes).encode()
         last = ",".join(["recover", *map(str, sorted(set(failed)))]) + "\n" if failed else ""
         output.write(first)
         length = len(first) + self.script.seek(0, os.SEEK_END) + len(last)

@@ -16,7 +16,15 @@ TOP = pathlib.Path(__file__).resolve().parent
 PROJECT = dict(re.findall(r'^([\w-]+) = "(.*)"$', (TOP / "pyproject.toml").read_text(), re.M))
 NAME = f"{PROJECT['name']}-{PROJECT['version']}"
 WHEEL = "Wheel-Version: 1.0\nGenerator: make_wheel\nRoot-Is-Purelib: true\nTag: py3-none-any\n"
-IN_SOURCE = ["pyproject.toml", "make_wheel.py", "README.md", "recline.py"]
+# The packages that are installed, each with its mark of being typed.
+IN_WHEEL = ["recline/*.py", "recline_*/*.py", "recline*/py.typed"]
+IN_SOURCE = ["pyproject.toml", "make_wheel.py", "README.md"]
+
+
+def installed() -> list[str]:
+    """The files that are installed, by name."""
+    found = (path for pattern in IN_WHEEL for path in sorted(TOP.glob(pattern)))
+    return [str(path.relative_to(TOP)) for path in found]
 
 
 def metadata() -> str:
@@ -54,7 +62,7 @@ def build_wheel(
     wheel_directory: str, config_settings: object = None, metadata_directory: object = None
 ) -> str:
     """The wheel."""
-    return put_wheel(wheel_directory, {"recline.py": (TOP / "recline.py").read_bytes()})
+    return put_wheel(wheel_directory, {name: (TOP / name).read_bytes() for name in installed()})
 
 
 def build_editable(
@@ -66,7 +74,7 @@ def build_editable(
 
 def build_sdist(sdist_directory: str, config_settings: object = None) -> str:
     """An archive of the sources."""
-    content = {name: (TOP / name).read_bytes() for name in IN_SOURCE}
+    content = {name: (TOP / name).read_bytes() for name in [*IN_SOURCE, *installed()]}
     with tarfile.open(pathlib.Path(sdist_directory) / f"{NAME}.tar.gz", "w:gz") as archive:
         for name, it in {**content, "PKG-INFO": metadata().encode()}.items():
             file = tarfile.TarInfo(f"{NAME}/{name}")

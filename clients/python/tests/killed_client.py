@@ -22,7 +22,7 @@ import serving  # where the client is
 
 import recline
 
-QUESTIONS = ("rounds", "history", "bundle")
+QUESTIONS = ("rounds", "history", "bundle", "plan", "live", "answer")
 NUMBERS = {"send": 2, "deliver": 3, "check": 1, "begin": 1, "turn": 1, "damage": 2, "bar": 2}
 
 
@@ -43,7 +43,7 @@ def shown(read: Callable[[], object]) -> str:
 def called(calls: Any, step: str) -> Any:
     """Makes the call of a step."""
     kind, *fields = step.split(",")
-    if kind in ("recover", "bundle"):
+    if kind in ("recover", "bundle", "plan", "answer"):
         return getattr(calls, kind)(map(int, fields))
     numbers = NUMBERS.get(kind, 0)
     values = [*map(int, fields[:numbers]), *map(bytes.fromhex, fields[numbers:])]
@@ -101,9 +101,9 @@ class Killed(recline.Service):
         if self.seconds:
             self.killing.start()
 
-    def _end(self, at_once: bool = False) -> recline.ServiceEnded:
+    def _end(self, at_once: bool = False, why: str = "") -> recline.ServiceEnded:
         self.killing.cancel()
-        return super()._end(at_once)
+        return super()._end(at_once, why)
 
 
 def main(words: Sequence[str]) -> None:

@@ -1,15 +1,15 @@
 """Each call of the client, what it answers, what is refused, and what no record can hold."""
 
 import os
-import signal
 import time
 import unittest
+from typing import Any
 from unittest import mock
 
-from serving import ServiceCase, answered, odd
+from serving import ServiceCase, answered, freeze, odd
 
 from recline import (
-    Begun, Channel, Fault, Marked, MessageName, Passed, Plan, Refused, Repeated, Round,
+    Begun, Channel, Fault, Marked, MessageName, Passed, Plan, Refused, Repeated, Replay, Round,
     ServiceEnded, Stale, Took, Turned,
 )
 
@@ -57,8 +57,9 @@ class TestSteps(ServiceCase):
         service.check(0, b"\x00state")
         service.deliver(1, 0)
         plan = service.recover(failed=(0,))
+        replay = Replay(MessageName(1, 0, 0), 0, b"m")
         self.assertEqual(
-            plan, Plan((1, None), (b"\x00state", None), (1, 0), (), (MessageName(1, 0, 0),), 1)
+            plan, Plan((1, None), (b"\x00state", None), (1, 0), (), (replay,), 1)
         )
         self.assertEqual(service.deliver(1, 0), Took(MessageName(1, 0, 0), None))
         self.assertEqual(service.recover(), Plan((None, None), (None, None), (1, 0), (), (), 1))
@@ -156,7 +157,7 @@ class TestRefusals(ServiceCase):
         service.bar(0, 1)
         service.begin(0)
         before = service.history()
-        for code, name, call, *words in [
+        refusals: list[tuple[Any, ...]] = [
             (1, "NoSuchProcess", service.send, 2, 0),
             (17, "ToSelf", service.send, 1, 1),
             (17, "ToSelf", service.deliver, 1, 1),
@@ -170,7 +171,8 @@ class TestRefusals(ServiceCase):
             (40, "BarNotLower", service.bar, 0, 1),
             (1, "NoSuchProcess", service.recover, [0, 2]),
             (1, "NoSuchProcess", service.bundle, [2]),
-        ]:
+        ]
+        for code, name, call, *words in refusals:
             self.refuses(code, name, call, *words)
         self.assertEqual(service.history(), before)
         self.assertEqual(service.close(), 1)
@@ -206,7 +208,6 @@ class TestValues(ServiceCase):
             self.assertRaises(TypeError, service.recover, [wrong_type])
         for no_bytes in ("a", 5, None, [1]):
             self.assertRaises(TypeError, service.check, 0, no_bytes)
-        self.assertRaises(TypeError, service.recover, 0)
         self.assertEqual(self.journal.read_text(), before)
         self.assertEqual(service.check(0, bytearray(b"a")), 1)
         self.assertEqual(service.check(0, memoryview(b"a")), 2)
@@ -219,6 +220,9 @@ class TestValues(ServiceCase):
         self.assertEqual(self.opened(processes=1).check(0), 1)
 
     def test_no_command(self) -> None:
+        for words in ("./recline serve", b"recline"):
+            with self.assertRaisesRegex(TypeError, "a command is a list of words"):
+                self.opened(command=words)  # type: ignore[arg-type]
         self.assertRaises(FileNotFoundError, self.opened, command=["/no/such/program"])
 
 
@@ -296,13 +300,12 @@ class TestEnds(ServiceCase):
     def test_stopped_service(self) -> None:
         """An interrupt comes out at once, though the service does nothing."""
         service = self.opened()
-        os.kill(service._process.pid, signal.SIGSTOP)
+        freeze(service.pid)
 
-        def interrupt(*_words: object) -> None:
+        def interrupt() -> None:
             raise TimeoutError
 
-        self.addCleanup(signal.signal, signal.SIGALRM, signal.signal(signal.SIGALRM, interrupt))
-        signal.setitimer(signal.ITIMER_REAL, 0.05)
+        self.alarm(interrupt)
         started = time.monotonic()
         self.assertRaises(TimeoutError, service.check, 0)
         self.assertLess(time.monotonic() - started, 5)

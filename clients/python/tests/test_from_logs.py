@@ -2,11 +2,13 @@
 
 import io
 import json
+import os
 import pathlib
 import signal
 import subprocess
 import sys
 import tempfile
+import time
 import unittest
 from typing import Any
 from unittest import mock
@@ -15,7 +17,7 @@ from serving import HERE, answered
 
 import from_logs
 import log_scripts
-from log_lines import Log
+from log_lines import Log, Unsound
 
 PROGRAM = HERE.parent / "from_logs.py"
 
@@ -42,7 +44,7 @@ class TestScripts(unittest.TestCase):
     """Logs that are sound."""
 
     def test_domino(self) -> None:
-        """Behind its send a receipt stands as early as can be, and all else as it was read."""
+        """After its send a receipt stands as early as can be, and all else as it was read."""
         text = (
             "world,1,2,fifo\nsend,0,1,61\ndeliver,0,1,0,\ncheck,1,4231\nsend,1,0,\n"
             "deliver,1,0,0,\ncheck,0,a1\n"
@@ -300,7 +302,7 @@ class TestUnsound(unittest.TestCase):
             making = log_scripts.Making("fifo", None, False)
             self.addCleanup(making.script.close)
             told = "one event more than the 2 that"
-            with self.assertRaisesRegex(log_scripts.Unsound, told) as raised:
+            with self.assertRaisesRegex(Unsound, told) as raised:
                 from_logs.read([Log("log", file)], making, from_logs.Progress())
             self.assertEqual(raised.exception.place, len(SENT + line(0, "checkpoint")))
 
@@ -310,8 +312,8 @@ class TestEnds(unittest.TestCase):
 
     def test_standard_files(self) -> None:
         for how, told, status in [
-            ("<&-", "from_logs: standard input: Bad file descriptor\n", 3),
-            (">&-", "from_logs: standard output: Bad file descriptor\n", 3),
+            ("<&-", "from_logs: standard input: it is closed, or a directory\n", 3),
+            (">&-", "from_logs: standard output: it is closed\n", 3),
             (">/dev/full", "from_logs: No space left on device\n", 3),
             ("--processes 1 2>&-", "", 2),
             ("--processes 1 2>/dev/full", "", 2),
@@ -324,6 +326,33 @@ class TestEnds(unittest.TestCase):
                 )
                 self.assertEqual((ran.stderr, ran.returncode), (told, status))
                 self.assertEqual(ran.stdout, "" if status else "world,1,2,fifo\nsend,0,1,\n")
+
+    def test_bad_inputs(self) -> None:
+        """Standard inputs that cannot be read, and one whose line has no end."""
+        for how, told, status in [
+            ("< /", "standard input: it is closed, or a directory", 3),
+            ("0> /dev/null", "standard input: Bad file descriptor", 3),
+            ('0> "$1"', "standard input: Bad file descriptor", 3),
+            ("< /dev/zero", "standard input:1: a line of more than 1048576 bytes", 2),
+        ]:
+            with self.subTest(how=how):
+                with tempfile.NamedTemporaryFile() as file:
+                    words = ["sh", "-c", f'exec "$0" {how}', str(PROGRAM), file.name]
+                    ran = subprocess.run(words, capture_output=True, text=True, check=False)
+                wanted = f"{told}\n" if status == 2 else f"from_logs: {told}\n"
+                self.assertEqual((ran.stderr, ran.stdout, ran.returncode), (wanted, "", status))
+
+    def test_input_that_does_not_wait(self) -> None:
+        """A pipe that answers at once that it has nothing yet is read to its end."""
+        end, begin = os.pipe()
+        os.set_blocking(end, False)
+        with subprocess.Popen([str(PROGRAM)], stdin=end, stdout=subprocess.PIPE) as program:
+            os.close(end)
+            time.sleep(0.3)  # most often it has asked by then
+            os.write(begin, SENT.encode())
+            os.close(begin)
+            assert program.stdout
+            self.assertEqual(program.stdout.read(), b"world,1,2,fifo\nsend,0,1,\n")
 
     def test_interrupt(self) -> None:
         program = subprocess.Popen(

@@ -43,11 +43,13 @@ class TestWheel(unittest.TestCase):
 
     def test_wheel(self) -> None:
         archive = self.wheel(make_wheel.build_wheel(self.folder))
-        self.assertEqual(archive.read("recline.py"), (FOLDER / "recline.py").read_bytes())
+        for name in make_wheel.installed():
+            self.assertEqual(archive.read(name), (FOLDER / name).read_bytes())
+        self.assertIn("recline/py.typed", archive.namelist())
         script = f"import sys; sys.path[:] = [{archive.filename!r}, *sys.path[1:]]\n"
         script += "import recline; print(recline.__file__, recline.MessageName(0, 0, 1).number)"
         ran = subprocess.run([sys.executable, "-c", script], capture_output=True, text=True)
-        self.assertEqual(ran.stdout, f"{archive.filename}/recline.py 1\n")
+        self.assertEqual(ran.stdout, f"{archive.filename}/recline/__init__.py 1\n")
 
     def test_editable(self) -> None:
         archive = self.wheel(make_wheel.build_editable(self.folder))
@@ -57,7 +59,7 @@ class TestWheel(unittest.TestCase):
         name = make_wheel.build_sdist(self.folder)
         with tarfile.open(pathlib.Path(self.folder, name)) as archive:
             found = {path.split("/", 1)[1] for path in archive.getnames()}
-        self.assertEqual(found, {*make_wheel.IN_SOURCE, "PKG-INFO"})
+        self.assertEqual(found, {*make_wheel.IN_SOURCE, *make_wheel.installed(), "PKG-INFO"})
 
 
 if __name__ == "__main__":

@@ -48,7 +48,7 @@ class TestKept(ServiceCase):
             self.assertEqual((service.replayed, service.torn), (2, 0))
             self.assertEqual(self.last(service).record, "send,0,1,61")
             self.assertEqual(self.last(service).value, sent)
-            self.assertEqual(service.deliver(0, 1).message, sent)
+            self.assertEqual(service.deliver(0, 1), recline.Took(sent, None))
         with self.kept() as service:
             self.assertEqual(self.last(service).value, recline.Took(sent, None))
             self.assertRaises(Refused, service.check, 5)
@@ -137,14 +137,15 @@ class TestKept(ServiceCase):
                 return call(*words)
             return noted
 
-        with mock.patch("os.pwrite", noting("journal", os.pwrite)), \
+        with mock.patch("os.pwrite", noting("file", os.pwrite)), \
                 mock.patch("os.fsync", noting("sync", os.fsync)), \
                 mock.patch("os.write", noting("service", os.write)):
             service = self.kept(durable=True)
-            self.assertEqual(done, ["sync", "journal", "sync", "service"])
+            # The folder; then the journal, and after that the checksum of its record.
+            self.assertEqual(done, ["sync", "file", "sync", "file", "service"])
             done.clear()
             service.check(0)
-            self.assertEqual(done, ["journal", "sync", "service"])
+            self.assertEqual(done, ["file", "sync", "file", "service"])
 
 
 class TestScript(ServiceCase):
@@ -374,7 +375,7 @@ class TestForks(ServiceCase):
             "if os.fork(): os.kill(os.getpid(), signal.SIGKILL)\n"
             "print('child', flush=True); sys.stdin.read()\n"
         )
-        folder = str(pathlib.Path(recline.__file__).parent)
+        folder = str(pathlib.Path(recline.__file__).parent.parent)
         client = subprocess.Popen(
             [sys.executable, "-c", program, folder, str(self.journal), *SERVICE],
             stdin=subprocess.PIPE, stdout=subprocess.PIPE,
