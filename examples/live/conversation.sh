@@ -7,9 +7,10 @@ coproc service { exec "$@"; }
 process=$service_PID from=${service[0]} to=${service[1]}
 trap '' PIPE
 tell() { # one record, and its answer: lines up to an empty one
-    echo "> $1" && echo "$1" >&"$to"
+    echo "> $1" && echo "$1" >&"$to" || exit 3
     while read -r line <&"$from" || { echo 'the service has ended' >&2 && exit 3; }; do
-        [ -n "$line" ] && echo "< $line" || return 0
+        [ -n "$line" ] || return 0
+        echo "< $line" || exit 3
     done
 }
 tell world,1,2,fifo

@@ -16,11 +16,11 @@ sys.path.insert(0, str(HERE.parent.parent / "clients" / "python"))
 
 import rod
 import words
+from files import Files
 from kills import Kills, random_kills
-from recline import Fault, JournalError, Refused, ServiceEnded
+from recline import Fault, JournalError, Refused, Service, ServiceEnded
 from supervisor import Failure, Supervisor
 from telling import Teller, counted
-from worlds import Worlds
 
 MOST_DEATHS = 3  # of the service one after another, without a further turn
 FAILED = 3
@@ -36,15 +36,18 @@ def command_of(asked: argparse.Namespace, worker: int) -> Sequence[str]:
 
 
 def cells_by_workers(
-    asked: argparse.Namespace, journal: str | None, kills: Kills, teller: Teller
+    asked: argparse.Namespace, journal: str, kills: Kills, teller: Teller, files: Files | None
 ) -> list[float]:
     """The rod at the end, as workers work it out."""
-    with Worlds(asked.service, asked.workers, journal) as worlds:
-        if worlds.service.replayed > 1:
-            records = counted(worlds.service.replayed, "record")
+    # What changes nothing need not stand in the journal.
+    with Service(
+        asked.service, processes=asked.workers, journal=journal, keep_questions=False
+    ) as service:
+        if service.replayed > 1:
+            records = counted(service.replayed, "record")
             teller.tell(f"the journal has {records}: all workers go on from their line")
         supervisor = Supervisor(
-            worlds,
+            service,
             lambda worker: command_of(asked, worker),
             rod.turn_of,
             teller,
@@ -52,6 +55,7 @@ def cells_by_workers(
             asked.rounds,
             asked.tape,
         )
+        supervisor.files = files
         states = supervisor.run()
     stretches = [rod.restored(state) for state in states]
     for worker, stretch in enumerate(stretches):
@@ -60,13 +64,15 @@ def cells_by_workers(
     return [cell for stretch in stretches for cell in stretch.cells]
 
 
-def cells_with_failures(asked: argparse.Namespace, journal: str, teller: Teller) -> list[float]:
+def cells_with_failures(
+    asked: argparse.Namespace, journal: str, kills: Kills, teller: Teller,
+    files: Files | None = None,
+) -> list[float]:
     """The rod at the end, of workers that are killed. Where the service is, it is started again."""
-    planned = asked.kill + random_kills(asked.kills, asked.workers, asked.turns, asked.seed)
-    kills, furthest, deaths = Kills(planned), -1, 0
+    furthest, deaths = -1, 0
     while True:
         try:
-            cells = cells_by_workers(asked, journal, kills, teller)
+            cells = cells_by_workers(asked, journal, kills, teller, files)
         except ServiceEnded as ended:
             deaths = 1 if teller.furthest > furthest else deaths + 1
             furthest = teller.furthest
@@ -98,7 +104,8 @@ def judge(asked: argparse.Namespace, cells: Sequence[float]) -> bool:
     is_good = is_same(cells, rod.plain_loop(asked.cells, asked.turns), "a plain loop")
     if not asked.alone:
         quiet = Teller("", "", asked.turns, True, "without failures: ")
-        others = cells_by_workers(asked, None, Kills([]), quiet)
+        with tempfile.TemporaryDirectory(prefix="recline-heat-") as folder:
+            others = cells_with_failures(asked, f"{folder}/journal", Kills([]), quiet)
         quiet.progress.wipe()
         is_good = is_same(cells, others, "a run without failures") and is_good
     return is_good
@@ -121,10 +128,15 @@ def tell_end(asked: argparse.Namespace, teller: Teller, is_good: bool) -> None:
 def work(asked: argparse.Namespace, journal: str) -> int:
     """All that is asked for; answers the status."""
     teller = Teller(journal, asked.program, asked.turns, asked.quiet)
+    files = Files(asked.files) if asked.files else None
+    planned = asked.kill + random_kills(asked.kills, asked.workers, asked.turns, asked.seed)
     try:
-        cells = cells_with_failures(asked, journal, teller)
+        cells = cells_with_failures(asked, journal, Kills(planned), teller, files)
     finally:
         teller.progress.wipe()
+    if files:
+        told = f"{counted(files.written, 'checkpoint')} in files, of which {files.deleted} were "
+        teller.tell(f"{told}deleted, since no recovery goes back to them any more")
     if asked.picture:
         teller.draw(asked.picture)
     if asked.result:
@@ -137,19 +149,22 @@ def work(asked: argparse.Namespace, journal: str) -> int:
 
 def look_at_files(asked: argparse.Namespace) -> None:
     """Sees that the files that are written at the end can be, before the workers begin."""
-    for path in filter(None, (asked.picture, asked.result)):
+    wanted: list[str] = [path for path in (asked.picture, asked.result) if path]
+    for path in wanted:
         file = pathlib.Path(path)
         if file.is_dir() or not os.access(file if file.exists() else file.parent, os.W_OK):
             raise Failure(f"{path}: cannot be written")
 
 
 def build(asked: argparse.Namespace) -> None:
-    """Has ./recline proved and built where it is needed and is not there: that takes long."""
+    """Has ./recline or ./try built where it is needed and is not there: that takes long."""
     needed = [asked.service[0], *([] if asked.quiet and not asked.picture else [asked.program])]
-    if words.PROGRAM in needed:
-        ran = subprocess.run([words.PROGRAM, "--help"], stdout=subprocess.DEVNULL, check=False)
+    ours = {str(pathlib.Path(word).resolve()): word for word in needed}
+    for program in ours.keys() & {words.PROGRAM, words.TRIAL}:
+        script = b"world,1,1,fifo\n"
+        ran = subprocess.run([program, "run"], input=script, stdout=subprocess.DEVNULL, check=False)
         if ran.returncode:
-            raise Failure(f"{words.PROGRAM} does not run")
+            raise Failure(f"{ours[program]} does not run")
 
 
 def main(given: list[str]) -> int:

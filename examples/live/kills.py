@@ -47,13 +47,18 @@ def read_kill(text: str) -> Kill:
 
 
 def random_kills(count: int, workers: int, turns: int, seed: int) -> list[Kill]:
-    """So many kills: one in four of two workers, and one in three with one more in its recovery."""
+    """Kills of so many workers in all.
+
+    Where as many are left, one kill in four is of two workers at once, and one in three has one
+    more in its recovery.
+    """
     chance = random.Random(seed)
     found = []
-    for _ in range(count):
+    while count > 0:
         drawn = chance.sample(range(workers), workers)
-        at_once = 2 if chance.random() < 1 / 4 else 1
-        is_more = chance.random() < 1 / 3
+        at_once = 2 if chance.random() < 1 / 4 and count > 1 else 1
+        is_more = chance.random() < 1 / 3 and count > at_once
+        count -= at_once + is_more
         found.append(
             Kill(
                 tuple(drawn[:at_once]),

@@ -12,14 +12,15 @@ import time
 from collections import Counter, deque
 from collections.abc import Callable, Iterable, Sequence
 
+from files import Files
 from kills import Kills, Moment
-from recline import Marked, MessageName, Round, Service, Took
+from recline import Marked, Plan, Replay, Round, Service, Took
 from watches import Marker, Message, Recovery, Watch
 from workers import Worker
-from worlds import Worlds
 
 PIECE = 1 << 16  # bytes that are read at once
 SECONDS_TO_END = 5.0  # for a process whose output is closed
+SWEEP = 40  # so many checkpoints are taken between two looks at what may be deleted
 IN_RECOVERY = "while the recovery was under way"
 
 
@@ -32,7 +33,7 @@ class Supervisor:
 
     def __init__(
         self,
-        worlds: Worlds,
+        service: Service,
         command: Callable[[int], Sequence[str]],
         turn_of: Callable[[bytes], int],
         watch: Watch,
@@ -40,10 +41,10 @@ class Supervisor:
         is_by_rounds: bool,
         most_events: int,
     ) -> None:
-        self.worlds, self.command, self.turn_of = worlds, command, turn_of
+        self.service, self.command, self.turn_of = service, command, turn_of
         self.watch, self.kills, self.is_by_rounds = watch, kills, is_by_rounds
         self.most_events = most_events
-        self.numbers = range(worlds.processes)
+        self.numbers = range(service.processes)
         self.workers = [Worker(p, b"", turn_of(b"")) for p in self.numbers]
         self.links: dict[tuple[int, int], deque[Message | Marker]] = {
             (p, q): deque() for p in self.numbers for q in self.numbers if p != q
@@ -55,11 +56,8 @@ class Supervisor:
         self.last_round: int | None = None  # the last completed one
         self.events = Counter[int]()  # of each worker in this world, more than its tape has
         self.ears = selectors.DefaultSelector()
-
-    @property
-    def service(self) -> Service:
-        """The service that is told what happens now."""
-        return self.worlds.service
+        self.swept = 0  # how many checkpoints there were at the last look
+        self.files: Files | None = None  # where checkpoints are, where they are in files
 
     def run(self) -> list[bytes]:
         """Runs all workers to their ends; answers what each has stored last.
@@ -77,8 +75,11 @@ class Supervisor:
                 self.listen()
                 if self.failed:
                     self.mend()
+                if self.files and self.files.written >= self.swept + SWEEP:
+                    self.sweep()
                 if self.last_round and max(self.events.values()) >= self.most_events:
                     self.begin_next_world()
+            self.sweep()
             return [worker.stored for worker in self.workers]
         finally:
             for worker in self.workers:
@@ -230,14 +231,24 @@ class Supervisor:
         """A worker takes a checkpoint. By rounds it begins one, unless one is open."""
         worker.stored = state
         if self.is_by_rounds and not self.markers_left:
-            begun = self.service.begin(worker.number, state)
+            begun = self.service.begin(worker.number, self.told(state))
             self.markers_left = len(self.links)
             self.put_markers(worker.number, begun.round)
         else:
-            self.service.check(worker.number, state)
+            self.service.check(worker.number, self.told(state))
         self.events[worker.number] += 1
         self.answer(worker, "done")
         self.settle(self.numbers)
+
+    def told(self, state: bytes) -> bytes:
+        """What a checkpoint stores at the service: the name of its file, or the state itself."""
+        return self.files.put(state) if self.files else state
+
+    def sweep(self) -> None:
+        """Deletes the files of checkpoints that no recovery goes back to any more."""
+        if self.files:
+            self.files.sweep(self.service)
+            self.swept = self.files.written
 
     # Links.
 
@@ -277,7 +288,12 @@ class Supervisor:
         A marker may force a checkpoint of it: that stores where it stands.
         """
         item = self.links[sender, worker.number].popleft()
-        answered = self.service.deliver(sender, worker.number, 0, worker.stands or b"")
+        state = worker.stands or b""
+        if isinstance(item, Marker):
+            state = self.told(state)
+        elif self.files:
+            state = b""  # no message has a worker take a checkpoint
+        answered = self.service.deliver(sender, worker.number, 0, state)
         self.events[worker.number] += 2  # the receipt, and perhaps a checkpoint
         if isinstance(item, Message) and answered == Took(item.name, None):
             worker.wants = worker.stands = None
@@ -317,40 +333,34 @@ class Supervisor:
         self.settle(self.numbers)
 
     def recover(self) -> None:
-        """Asks for the line, and brings all to it; who goes back waits for a process then.
+        """Asks for the line, and brings all to it."""
+        failed, self.failed = tuple(sorted(self.failed)), set()
+        plan = self.service.recover(failed)
+        self.go_back(failed, plan, plan.replays)
+
+    def go_back(
+        self, failed: tuple[int, ...], plan: Plan, replays: Sequence[Replay], is_next: bool = False
+    ) -> None:
+        """Brings all to the line; who goes back waits for a process then.
 
         Who stays goes on as it is, blocked in a receive perhaps, and the links hold the replays.
         """
-        failed, self.failed = tuple(sorted(self.failed)), set()
         was = tuple(worker.turn for worker in self.workers)
         begin = tuple(worker.number for worker in self.workers if worker.begins is not None)
-        plan = self.service.recover(failed)
-        for number, state in enumerate(plan.states):
-            if state is not None:
+        for number, told in enumerate(plan.states):
+            if told is not None:
+                state = self.files.state(told) if self.files else told
                 self.stop(self.workers[number])
                 self.workers[number] = Worker(number, state, self.turn_of(state), stored=state)
-        replays = self.messages(plan.replays)
         for link in self.links.values():
             link.clear()
-        for message in replays:
+        messages = [Message(*replay) for replay in replays]
+        for message in messages:
             self.links[message.name.sender, message.to].append(message)
         self.markers_left = 0
         now = tuple(worker.turn for worker in self.workers)
-        self.watch.recovered(Recovery(failed, plan, was, now, begin, replays, self.whole_round()))
-
-    def messages(self, names: Sequence[MessageName]) -> list[Message]:
-        """The messages of these names. The service has them: the supervisor need not keep any."""
-        found: dict[MessageName, Message] = {}
-        sender = number = 0
-        for record in self.service.history().splitlines() if names else ():
-            kind, *fields = record.split(",")
-            if kind == "tape":
-                sender, number = int(fields[0]), 0
-            elif kind == "send":
-                name = MessageName(sender, int(fields[1]), number)
-                found[name] = Message(name, int(fields[0]), bytes.fromhex(fields[2]))
-                number += 1
-        return [found[name] for name in names]
+        whole = self.whole_round()
+        self.watch.recovered(Recovery(failed, plan, was, now, begin, messages, whole, is_next))
 
     def whole_round(self) -> Round | None:
         """The last completed round. No recovery has cut off one of its checkpoints."""
@@ -364,22 +374,13 @@ class Supervisor:
     def begin_next_world(self) -> None:
         """Begins a new world before a tape is full: from the line that there is if all failed.
 
-        What is in transit there is sent first, and then each takes a checkpoint. So no line of the
-        new world is before that.
+        There each worker takes the check that it goes back to as its first one, so that no line of
+        the new world is before that.
         """
         self.watch.begins_world()
-        self.failed.update(self.numbers)
-        self.recover()
-        in_transit = [item for link in self.links.values() for item in link]
-        for link in self.links.values():
-            link.clear()
-        self.worlds.begin_next()
-        self.events.clear()
-        for item in in_transit:
-            if isinstance(item, Message):
-                self.put_message(item.name.sender, item.to, item.body)
-        for worker in self.workers:
-            self.service.check(worker.number, worker.stored)
-        self.worlds.take_over()
+        rolled = self.service.roll_over()
         self.last_round = None
+        self.events = Counter({number: 1 for number in self.numbers})
+        self.events.update(replay.message.sender for replay in rolled.replays)
+        self.go_back(tuple(self.numbers), rolled.plan, rolled.replays, is_next=True)
         self.mend()

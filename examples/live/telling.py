@@ -124,7 +124,7 @@ class Teller:
             told = f"nobody went back to before round {number}, the last completed: checks {checks}"
             self.tell(f"  {told}")
         self.tell_replays(recovery.replays)
-        if not self.is_quiet:
+        if not self.is_quiet and not recovery.is_next:
             self.explain()
 
     def place(self, recovery: Recovery, worker: int, check: int | None) -> str:
@@ -178,8 +178,14 @@ class Teller:
             self.tell(f"  | {part}")
 
     def draw(self, path: str) -> None:
-        """Writes the picture of the last recovery."""
+        """Writes the picture of the last recovery, or where there is none of the last records."""
         picture = self.shown_by("draw")
-        if picture:
-            pathlib.Path(path).write_bytes(picture)
+        if not picture:
+            return
+        pathlib.Path(path).write_bytes(picture)
+        with open(self.journal, "rb") as journal:
+            has_one = any(record.startswith(b"recover") for record in journal)
+        if has_one:
             self.tell(f"the picture of the last recovery is {path}")
+        else:
+            self.tell(f"the journal has no recovery: the picture of its last records is {path}")

@@ -29,6 +29,7 @@ class Recovery(NamedTuple):
     begin: tuple[int, ...]  # who had no process before it: a recovery was under way
     replays: list[Message]
     last_round: Round | None  # the last completed round, where there are rounds
+    is_next: bool  # whether a new world begins by it
 
 
 class Watch(Protocol):

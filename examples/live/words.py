@@ -8,7 +8,8 @@ from collections.abc import Callable
 import kills
 import rod
 
-PROGRAM = str(pathlib.Path(__file__).resolve().parent.parent.parent / "recline")
+TOP = pathlib.Path(__file__).resolve().parent.parent.parent
+PROGRAM, TRIAL = str(TOP / "recline"), str(TOP / "try")
 ABOUT = """The heat of a rod, worked out by some worker processes, each with a stretch of its cells:
 in each turn neighbours send each other their border cells, and each worker stores its cells as a
 checkpoint when it likes. Workers are killed. `recline serve` is told what all of them do: it finds
@@ -111,7 +112,11 @@ def add_failures(group: argparse._ArgumentGroup) -> None:
         "while the recovery from that is under way; may be given again",
     )
     group.add_argument(
-        "--kills", type=number(0, 10_000), default=0, metavar="K", help="K more at random (0)"
+        "--kills",
+        type=number(0, 10_000),
+        default=0,
+        metavar="K",
+        help="K workers more at random, some two at once, some while a recovery is under way (0)",
     )
     group.add_argument(
         "--seed", type=number(0, 2**32), default=1, metavar="S", help="of what is random (1)"
@@ -133,6 +138,11 @@ def add_outside(group: argparse._ArgumentGroup) -> None:
         help=f"with --rounds, begin a new world where a tape may have E events ({TAPE:,}); "
         "without, the turns have to fit on a tape",
     )
+    group.add_argument(
+        "--files",
+        metavar="FOLDER",
+        help="keep checkpoints in files, and delete those that no recovery goes back to any more",
+    )
     group.add_argument("--picture", metavar="FILE", help="write the last recovery, drawn by ./draw")
     group.add_argument(
         "--result", metavar="FILE", help="write the cells, each to its last bit, one to a line"
@@ -150,16 +160,25 @@ def add_outside(group: argparse._ArgumentGroup) -> None:
     )
     group.add_argument(
         "--program",
-        default=PROGRAM,
+        default="",
         metavar="PATH",
-        help="the program that ./explain and ./draw run (./recline)",
+        help="the program that ./explain and ./draw run (that of the service; else ./recline)",
     )
+
+
+def program_of(service: list[str]) -> str:
+    """The program that explains what a service did: its own, where it is called as ours is."""
+    is_like_ours = len(service) == 2 and service[1] == "serve"
+    return service[0] if is_like_ours else PROGRAM
 
 
 def read(given: list[str]) -> argparse.Namespace:
     """What the words of the command line ask for."""
     line = parser()
     asked = line.parse_args(given)
+    if not asked.service:
+        line.error("--service: a command has a word at least")
+    asked.program = asked.program or program_of(asked.service)
     if asked.every is None:
         asked.every = EVERY_ROUND if asked.rounds else EVERY
     stretch = -(-asked.cells // asked.workers)
