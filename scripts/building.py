@@ -15,6 +15,8 @@ import statements
 import workspace
 
 SECONDS_OF_SILENCE = 60
+# The libraries of the toolchain that a program of `bench` uses, besides std.
+OF_KIT = ["anyhow"]
 # Proves and builds a crate by so many jobs, over those below it, what is said goes to a file;
 # answers whether it is proved.
 Build = Callable[[str, int, workspace.Below, workspace.Path], bool]
@@ -66,11 +68,40 @@ def alone() -> Iterator[None]:
         yield
 
 
+def build_each(
+    below: workspace.Below, progress: Progress, pool: ThreadPoolExecutor, at_once: int, logs: str,
+    build: Build,
+) -> bool:
+    """Builds the crates, so many at once; answers whether all are proved."""
+    order = progress.order
+    chain = workspace.chains(order, below)
+    while len(progress.done) < len(order):
+        heaviest = max(chain[it] for it in order if it not in progress.done)
+        ready = sorted(progress.ready(below), key=lambda it: -chain[it])
+        under_way = len(progress.running) + len(ready)
+        for name in ready[: at_once - len(progress.running)]:
+            jobs = share(at_once, under_way, chain[name] == heaviest)
+            words = (name, jobs, below, f"{logs}/{name}")
+            progress.running[pool.submit(build, *words)] = name
+        ended, _ = wait(
+            progress.running, timeout=SECONDS_OF_SILENCE, return_when=FIRST_COMPLETED
+        )
+        for it in ended:
+            name = progress.running.pop(it)
+            if not it.result():
+                said = pathlib.Path(f"{logs}/{name}").read_text(errors="replace")
+                sys.stderr.write(said)
+                progress.tell(f"{name} could not be proved or built")
+                return False
+            progress.done.add(name)
+        progress.tell_state()
+    return True
+
+
 def build_all(
     below: workspace.Below, order: list[str], at_once: int, what: str, build: Build
 ) -> bool:
     """Builds the crates in `order`, and says first what is done; answers whether all are proved."""
-    chain = workspace.chains(order, below)
     progress = Progress(order)
     progress.tell(what)
     with (
@@ -78,27 +109,13 @@ def build_all(
         tempfile.TemporaryDirectory(prefix="recline-logs-") as logs,
         ThreadPoolExecutor(at_once) as pool,
     ):
-        while len(progress.done) < len(order):
-            heaviest = max(chain[it] for it in order if it not in progress.done)
-            ready = sorted(progress.ready(below), key=lambda it: -chain[it])
-            under_way = len(progress.running) + len(ready)
-            for name in ready[: at_once - len(progress.running)]:
-                jobs = share(at_once, under_way, chain[name] == heaviest)
-                words = (name, jobs, below, f"{logs}/{name}")
-                progress.running[pool.submit(build, *words)] = name
-            ended, _ = wait(
-                progress.running, timeout=SECONDS_OF_SILENCE, return_when=FIRST_COMPLETED
-            )
-            for it in ended:
-                name = progress.running.pop(it)
-                if not it.result():
-                    said = pathlib.Path(f"{logs}/{name}").read_text(errors="replace")
-                    sys.stderr.write(said)
-                    progress.tell(f"{name} could not be proved or built")
-                    return False
-                progress.done.add(name)
-            progress.tell_state()
-    return True
+        try:
+            is_proved = build_each(below, progress, pool, at_once, logs, build)
+        except KeyboardInterrupt:
+            pool.shutdown(wait=False, cancel_futures=True)
+            workspace.end_all()
+            raise
+    return is_proved
 
 
 def is_built(program: pathlib.Path) -> bool:
@@ -140,7 +157,7 @@ def make_bench(room: pathlib.Path, name: str, low: list[str]) -> pathlib.Path:
     top = workspace.ROOT / "bench" / name
     crate = workspace.make_room(room, workspace.ROOT, name, {**workspace.stands_on(), name: low})
     with (room / "crates.txt").open("a", encoding="utf-8") as crates:
-        crates.write(f"{name}: {' '.join(low)} anyhow\n")
+        crates.write(f"{name}: {' '.join([*low, *OF_KIT])}\n")
     copy_text(workspace.ROOT / "HANDLES", room / "HANDLES")
     for file in top.rglob("*.rattle"):
         copy_text(file, crate / "src" / file.relative_to(top).with_suffix(".rt"))
@@ -153,26 +170,43 @@ def make_bench(room: pathlib.Path, name: str, low: list[str]) -> pathlib.Path:
     return crate
 
 
+def build_of(order: list[str], below: workspace.Below) -> Build:
+    """How these crates are built: as most of the work is done already, else over statements.
+
+    `./recline` and `./test` leave statements, and `scripts/build_program --for-changes` libraries
+    of `rt`.
+    """
+    if all(statements.is_made(it, below) for it in order):
+        return statements.build
+    stamps = [workspace.ROOT / "crates" / it / "out" / "rlib" / "stamp" for it in order]
+    return workspace.build if all(it.is_file() for it in stamps) else statements.build
+
+
 def build_bench(
     room: pathlib.Path, name: str, low: list[str], words: Sequence[str]
 ) -> pathlib.Path:
     """Proves and builds a program of `bench` over the crates `low`, and answers where it is.
 
     The crates are built where they belong, so that the next program finds them. What is proved of
-    this one is kept in .git, if there is one. It is run with these words. One that is not proved
-    ends all.
+    this one is kept in .git, if there is one, and not proved again. Over libraries of `rt` it is
+    run with these words. One that is not proved ends all.
     """
     below = workspace.stands_on()
     order = workspace.needed(low, below)
+    build = build_of(order, below)
     what = f"proving the {len(order)} crates below bench/{name}, where they are not proved yet"
-    if not build_all(below, order, workspace.lanes(), what, workspace.build):
+    if not build_all(below, order, workspace.lanes(), what, build):
         sys.exit(1)
     crate = make_bench(room, name, low)
     kept = workspace.ROOT / ".git" / "recline-bench" / name
     with alone():
         workspace.link_folder(kept, crate / "out")
     log = room / "log"
-    if workspace.run(["rt", "run", "--", *words], crate, log):
+    if build is statements.build:
+        is_built = statements.build_over(crate, low, OF_KIT, workspace.lanes(), log)
+    else:
+        is_built = not workspace.run(["rt", "run", "--", *words], crate, log)
+    if not is_built:
         sys.exit(log.read_text(errors="replace")[-4000:])
     program = room / name
     workspace.link(crate / "out" / name, program)

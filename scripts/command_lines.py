@@ -1,6 +1,8 @@
 """The command lines of scripts: their help is the docstring of the script."""
 
 import argparse
+import pathlib
+import subprocess
 from collections.abc import Iterable
 
 
@@ -33,3 +35,14 @@ def program(doc: str | None) -> str | None:
     words.add_argument("program", nargs="?", metavar="PROGRAM", help="the program that is run")
     named: str | None = words.parse_args().program
     return named
+
+
+def runs(program: str | pathlib.Path) -> bool:
+    """Whether a program runs: a script of no command. ./recline is built by that if need be."""
+    try:
+        ran = subprocess.run(
+            [program, "run"], input=b"world,1,1,fifo\n", stdout=subprocess.DEVNULL, check=False
+        )
+    except OSError:
+        return False
+    return ran.returncode == 0

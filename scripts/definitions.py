@@ -23,9 +23,9 @@ Scope = dict[str, Name]
 
 # The lower halves of the machine, of the texts and of the posts.
 PARTS = {
-    "line_turns", "line_steps", "line_moves", "line_rings", "line_journals",
-    "line_fields", "line_claims", "line_scripts", "line_answers",
-    "line_words", "line_drill_texts",
+    "line_colours", "line_steps", "line_moves", "line_rings", "line_journals",
+    "line_fields", "line_claims", "line_scripts", "line_reports", "line_answers",
+    "line_words",
 }
 # Crates of tests and of examples.
 EXAMPLES = {

@@ -2,7 +2,7 @@
 
 import collections
 import random
-from collections.abc import Iterator
+from collections.abc import Callable, Iterator
 from typing import TypeVar
 
 from slow_model.texts import earliest_version
@@ -179,7 +179,7 @@ def domino(most: int) -> Iterator[str]:
     yield "end"
 
 
-INPUTS = {
+INPUTS: dict[str, tuple[Callable[[int], Iterator[str]], str]] = {
     "ring": (ring, "run"),
     "great-ring": (great_ring, "run"),
     "rounds": (rounds, "run"),

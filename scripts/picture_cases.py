@@ -6,13 +6,14 @@ import random
 import unittest
 from xml.etree import ElementTree
 
-from pictures import drawing, labels, stories, svg, texts, views
+from pictures import drawing, labels, reports, stories, svg, texts, views
 from slow_model import scripts
+from slow_model.collecting import Collecting
 from slow_model.texts import earliest_version
 
 TOP = pathlib.Path(__file__).resolve().parent.parent
 EXAMPLES = TOP / "examples"
-SCRIPTS = EXAMPLES / "run"
+SCRIPTS, REPORTS = EXAMPLES / "run", EXAMPLES / "collect"
 SVG = "{http://www.w3.org/2000/svg}"
 
 
@@ -22,6 +23,13 @@ def story_by_model(text: bytes) -> stories.Story | None:
     if said:
         return None
     return stories.told(texts.read_script(text), texts.read_replies(output))
+
+
+def story_of_reports(text: bytes, with_plan: bool = False) -> stories.Story:
+    """The story of reports that the slow model answers; with their last plan if that is wanted."""
+    service = Collecting()
+    output = service.take(text)
+    return stories.told(*reports.read(text, output + service.end(), with_plan))
 
 
 def story_of(name: str) -> stories.Story:

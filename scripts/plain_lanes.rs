@@ -1,4 +1,4 @@
-// What bench/lane_speed/main.rattle times, in plain Rust: scripts/measure_parts runs both.
+// What bench/lane_speed/main.rattle times, in plain Rust: scripts/measure parts runs both.
 
 use std::time::Instant;
 

@@ -12,6 +12,8 @@ import subprocess
 import tempfile
 from typing import NamedTuple
 
+import command_lines
+
 TOP = pathlib.Path(__file__).resolve().parent.parent
 # Workers of a drill that wait in vain take 10,000,000 turns.
 MOST_SECONDS = 600
@@ -44,7 +46,7 @@ class Counts(NamedTuple):
 
 def built_program() -> str:
     """The program of this repository, which is proved and built first where it isn't."""
-    subprocess.run([TOP / "recline", "--version"], stdout=subprocess.DEVNULL, check=True)
+    command_lines.runs(TOP / "recline")
     return str(TOP / "crates" / "line_cli" / "out" / "line_cli")
 
 

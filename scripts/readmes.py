@@ -3,6 +3,8 @@
 Its promises stand in a table with the four columns of `COLUMNS`. The last two name the crate's
 edits by their files, without `.edit`: those of must-fail/ and those of further-edits/.
 
+What a crate stands on is listed under 'Uses', as crates.txt has it.
+
 What a caller sees is quoted in blocks of three backticks and `text`: signatures and some of their
 clauses as they stand in the code, but for `pub`, and with the type before the name of a method, as
 `fn Tape::push(`. How lines are broken is not compared.
@@ -15,6 +17,7 @@ from functools import cache
 from typing import NamedTuple
 
 import definitions
+import workspace
 from definitions import ROOT
 
 FOLDERS = ("must-fail", "further-edits")
@@ -27,6 +30,7 @@ BREAKS = [(" -> ", " × ", " → ", " ↔ ", " ⊎ "), (" ++ ", " ≡ "), (" (",
 BLOCK = re.compile(r"(?<=^```text\n).*?(?=^```$)", re.M | re.S)
 OWNER = re.compile(r"(?:impl|pub trait)(?:<[^>]*>)? (?:\w+(?:<[^>]*>)? for )?(\w+)")
 BEGIN = re.compile(r"( *)(?:pub(?:\(crate\))? )?(?:const )?fn (\w+)")
+USES = re.compile(r"(?<=^It stands on )`\w+`(?:(?:, | and )`\w+`)*", re.M)
 QUOTED = re.compile(r"fn ((?:\w+::)?\w+)")
 CLAUSE = re.compile(r" +(requires|ensures)(?: (\w+))? \{")
 
@@ -64,12 +68,16 @@ def edits_named(text: str) -> dict[str, set[str]]:
 
 
 def faults_of_edits(crate: str, text: str) -> list[str]:
-    """Each edit that a README names and the folder has not, and each that it does not name."""
+    """Edits that a README names and the folder has not, or the other way; and rows without one.
+
+    A row that names no edit of must-fail/ says there why not.
+    """
     found, said = [], edits_named(text)
     have = {folder: {it.stem for it in (ROOT / "crates" / crate / folder).glob("*.edit")}
             for folder in FOLDERS}
     # `./test` lends further edits to the gate: these stand in both folders then.
     have["must-fail"] -= have["further-edits"]
+    found += [f"no edit of must-fail/ nor why not: {it[0]}" for it in rows(text) if not it[2]]
     for folder in FOLDERS:
         found += [f"there is no {folder}/{it}.edit" for it in sorted(said[folder] - have[folder])]
         found += [f"{folder}/{it}.edit is not named" for it in sorted(have[folder] - said[folder])]
@@ -170,12 +178,26 @@ def anew(crate: str, block: str) -> str:
     return "".join(f"{part}\n" for line in lines for part in broken(line))
 
 
+def uses_of(crate: str) -> str:
+    """What a crate stands on, in words."""
+    names = [f"`{it}`" for it in workspace.listed()[crate]]
+    return " and ".join([", ".join(names[:-1]), names[-1]]) if len(names) > 1 else "".join(names)
+
+
+def faults_of_uses(crate: str, text: str) -> list[str]:
+    """Where a README does not list what crates.txt says that the crate stands on."""
+    if USES.findall(text) == [uses_of(crate)]:
+        return []
+    return [f"it does not say: It stands on {uses_of(crate)}"]
+
+
 def faults_of(crate: str) -> list[str]:
     """What is wrong in the README.md of a crate."""
     if not path_of(crate).is_file():
         return [f"crates/{crate} has no README.md"]
     text = path_of(crate).read_text(encoding="utf-8")
     found = faults_of_edits(crate, text) + faults_of_quotes(crate, text)
+    found += faults_of_uses(crate, text)
     if re.findall(r"^## (.*)$", text, re.M) != HEADINGS:
         found.append(f"its headings are not {', '.join(HEADINGS)}")
     return [f"crates/{crate}/README.md: {it}" for it in found]
@@ -187,11 +209,11 @@ def faults() -> list[str]:
 
 
 def write() -> None:
-    """Quotes anew, in the README.md of each crate, what it quotes."""
+    """Quotes anew, in the README.md of each crate, what it quotes, and lists what it stands on."""
     for crate in definitions.crates():
         path = path_of(crate)
         if path.is_file():
             parts = re.split(f"({BLOCK.pattern})", path.read_text(encoding="utf-8"),
                              flags=BLOCK.flags)
             parts[1::2] = [anew(crate, block) for block in parts[1::2]]
-            path.write_text("".join(parts), encoding="utf-8")
+            path.write_text(USES.sub(uses_of(crate), "".join(parts)), encoding="utf-8")

@@ -13,7 +13,7 @@ from typing import NamedTuple
 import definitions
 from definitions import ROOT
 
-FORMATS = ROOT / "docs" / "FORMATS.md"
+FORMATS, REPORTS = ROOT / "docs" / "FORMATS.md", ROOT / "docs" / "REPORTS.md"
 STEPS = ROOT / "crates" / "line_world" / "specs" / "Refusals.antt"
 # Errors that are shown by their names; what their docstrings say stands for a sentence.
 BY_NAME = {"Fault", "ServeError"}
@@ -24,15 +24,18 @@ SCRIPT = {
     "world": "Scripts.world_of", "send": "Scripts.send_of", "deliver": "Scripts.deliver_of",
     **dict.fromkeys(["check", "begin", "turn"], "Scripts.with_state"),
     **dict.fromkeys(["damage", "bar"], "Scripts.with_check"),
-    **dict.fromkeys(["recover", "bundle"], "Scripts.with_failed"),
-    **dict.fromkeys(["rounds", "history"], "Shapes.alone"),
+    **dict.fromkeys(["recover", "bundle", "plan", "answer"], "Scripts.with_failed"),
+    **dict.fromkeys(["rounds", "history", "live"], "Shapes.alone"),
 }
+# Views that tell what a recovery would be answered; of these, one that names no process.
+VIEWS, OF_ALL_PROCESSES = dict.fromkeys(["plan", "live", "answer"], "recover"), {"live"}
 CHECK_TEXT = {
     "history": "Histories.head_in", "tape": "Histories.tape_of",
     "send": "Events.send_event_of", "recv": "Events.recv_event_of",
     "check": "Events.check_event_of", "mark": "Events.mark_event_of",
     "damage": "Entries.damage_of", "bar": "Entries.bar_of", "failed": "Entries.failed_of",
-    "line": "Entries.line_of", "pass": "Entries.passed_of", "end": "Entries.end_of",
+    "line": "Entries.line_of", "pass": "Entries.passed_of", "start": "Entries.start_of",
+    "replay": "Entries.replay_of", "end": "Entries.end_of",
 }
 # What puts a record of an event on its tape.
 EVENTS, PUT = {"send", "recv", "check", "mark"}, ("line_claims", "Histories", "event_at")
@@ -106,7 +109,7 @@ def refusals_of(error: str, body: str, text: str) -> Iterator[Refusal]:
 @cache
 def refusals() -> list[Refusal]:
     """All refusals, crate by crate, those that others stand on first."""
-    found = []
+    found: list[Refusal] = []
     for crate in definitions.crates():
         for path in sorted((ROOT / "crates" / crate / "src").rglob("*.rt")):
             text = read(path)
@@ -129,15 +132,6 @@ def numbers() -> dict[str, int]:
     return {name: number for number, name in names().items()}
 
 
-def home_of(error: str) -> str:
-    """The crate of an error."""
-    for crate in definitions.crates():
-        for path in (ROOT / "crates" / crate / "src").rglob("*.rt"):
-            if f"pub enum {error} {{" in read(path):
-                return crate
-    return ""
-
-
 # Where they can come: commands and records.
 
 
@@ -147,6 +141,16 @@ def rows_of(heading: str) -> dict[int, str]:
     part = read(FORMATS).partition(f"\n## {heading}\n")[2].partition("\n## ")[0]
     rows = re.findall(r"^\| (\d+) \| [A-Z].*\|([^|]*)\|$", part, re.M)
     return {int(number): last for number, last in rows}
+
+
+@cache
+def reported() -> dict[int, list[str]]:
+    """The reports that each number refuses, as the table of docs/REPORTS.md has them."""
+    found: dict[int, list[str]] = {}
+    for record, order in re.findall(r"^\| `(\w+)[,`].*\|([^|]*)\|$", read(REPORTS), re.M):
+        for number in re.findall(r"\d+", re.sub(r"\(.*?\)", "", order)):
+            found.setdefault(int(number), []).append(record)
+    return found
 
 
 def asked_in_steps() -> dict[str, list[str]]:
@@ -180,7 +184,9 @@ def asked() -> dict[str, list[str]]:
     for command, reader in SCRIPT.items():
         said = set(re.findall(r"refused(?:_command)? faults\.(\w+)", lines_reached(reader)))
         first = sorted(said, key=of_records.index)
-        rest = [name for name in steps.get(command, []) if name not in first]
+        rest = [name for name in steps.get(VIEWS.get(command, command), []) if name not in first]
+        if command in OF_ALL_PROCESSES:
+            rest.remove("NoSuchProcess")
         if first or rest:
             found[command] = first + rest
     return found
@@ -206,6 +212,8 @@ def in_texts(number: int) -> str:
     commands = [command for command, order in asked().items() if name in order]
     if commands:
         parts.append("`refused`: " + ", ".join(commands))
+    if number in reported():
+        parts.append("`refused` of reports: " + ", ".join(reported()[number]))
     if name in OF_ALL and "Fault" in errors:
         parts.append("`fault` of a record")
     for kind, found in [("script", faulty(True)), ("check text", faulty(False))]:

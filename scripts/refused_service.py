@@ -67,14 +67,14 @@ def answers_of(output: bytes) -> Iterator[bytes]:
         raise Difference(f"the output ends in an answer: {shown(begun[-100:])}")
 
 
-def same_but_refused(text: bytes, ran: Ran) -> int:
+def same_but_refused(text: bytes, ran: Ran, model: type[Service]) -> int:
     """Asks for the answers to a text, in which memory may have been refused; how often it was.
 
     The records that were refused it have changed nothing, and each other one has its whole answer.
     """
     if ran.status not in (0, 1, 2):
         raise Difference(f"its status is {ran.status}, and it says {shown(ran.said)}")
-    service = Service()
+    service = model()
     answers = answers_of(ran.output)
     refused = at = 0
     *ended, rest = text.split(b"\n")
@@ -96,28 +96,34 @@ def same_but_refused(text: bytes, ran: Ran) -> int:
     return refused
 
 
-def refuse_growth(command: Sequence[str], library: str, text: bytes, growth: int) -> str:
+def refuse_growth(
+    command: Sequence[str], library: str, text: bytes, growth: int, model: type[Service]
+) -> str:
     """Refuses a service one request for memory, and answers what came of it."""
     ran = run(command, library, text, REFUSED_GROWTH=growth)
     if ran.status == 3 and not ran.taken:
         if ran.output or not NO_START.fullmatch(ran.said):
             raise Difference(f"it does not start: {shown(ran.output)}, {shown(ran.said)}")
         return "not started"
-    refused = same_but_refused(text, ran)
+    refused = same_but_refused(text, ran, model)
     if refused > 1:
         raise Difference(f"one request was refused, and {refused} records have no memory")
     return "told" if refused else "answered"
 
 
-def refuse_all(command: Sequence[str], library: str, text: bytes, growth: int) -> str:
+def refuse_all(
+    command: Sequence[str], library: str, text: bytes, growth: int, model: type[Service]
+) -> str:
     """Refuses a service a request for memory and all that follow; answers what came of it."""
     ran = run(command, library, text, REFUSED_GROWTH=growth, REFUSED_TIMES=1 << 40)
     if ran.status == 3 and not ran.taken:
         return "not started"
-    return "told" if same_but_refused(text, ran) else "answered"
+    return "told" if same_but_refused(text, ran, model) else "answered"
 
 
-def fail_read(command: Sequence[str], library: str, text: bytes, read: int, piece: int) -> None:
+def fail_read(
+    command: Sequence[str], library: str, text: bytes, read: int, piece: int, model: type[Service]
+) -> None:
     """Lets a read fail: all that was read before is answered."""
     ran = run(
         command, library, text, FAILING_READ=read, FAILING_TIMES=1000, MOST_BYTES=piece,
@@ -125,29 +131,33 @@ def fail_read(command: Sequence[str], library: str, text: bytes, read: int, piec
     )  # fmt: skip
     if ran.counts.reads < read:
         return
-    same(ran.output, answers_to([text[:ran.taken]])[0][0])
+    same(ran.output, answers_to([text[:ran.taken]], model)[0][0])
     if ran.status != 3 or not READ_FAULT.fullmatch(ran.said):
         raise Difference(f"a read failed: status {ran.status}, and it says {shown(ran.said)}")
 
 
-def fail_write(command: Sequence[str], library: str, text: bytes, write: int, piece: int) -> None:
+def fail_write(
+    command: Sequence[str], library: str, text: bytes, write: int, piece: int, model: type[Service]
+) -> None:
     """Lets a write fail: what went out is a prefix of the answers."""
     ran = run(command, library, text, FAILING_WRITE=write, FAILING_TIMES=1000, MOST_BYTES=piece)
     if ran.counts.writes < write:
         return
-    whole = b"".join(answers_to([text])[0])
+    whole = b"".join(answers_to([text], model)[0])
     same(ran.output, whole[:len(ran.output)])
     if ran.status != 3 or not WRITE_FAULT.fullmatch(ran.said):
         raise Difference(f"a write failed: status {ran.status}, and it says {shown(ran.said)}")
 
 
-def interrupt(command: Sequence[str], library: str, text: bytes, call: int, piece: int) -> None:
+def interrupt(
+    command: Sequence[str], library: str, text: bytes, call: int, piece: int, model: type[Service]
+) -> None:
     """Lets a signal interrupt a read and a write, which are made again."""
     ran = run(
         command, library, text, FAILING_READ=call, FAILING_WRITE=call, FAILING_TIMES=3,
         FAILING_ERRNO=errno.EINTR, MOST_BYTES=piece,
     )  # fmt: skip
-    if same_but_refused(text, ran):
+    if same_but_refused(text, ran, model):
         raise Difference("no memory, though none was refused")
 
 

@@ -9,7 +9,7 @@ and nothing is kept but these libraries and the program.
 import pathlib
 import signal
 import subprocess
-from collections.abc import Iterator
+from collections.abc import Iterable, Iterator
 
 import workspace
 
@@ -62,24 +62,37 @@ def is_made(name: str, below: workspace.Below) -> bool:
     )
 
 
-def words_to_build(name: str, jobs: int, below: workspace.Below) -> list[str]:
-    """The command that proves a crate and writes its library or its object file."""
+def words_over(
+    name: str, root: str, jobs: int, of_kit: Iterable[str], low: list[str], below: workspace.Below
+) -> list[str]:
+    """The command that proves a crate over the statements of the crates `low`, without its end."""
     tools = kit()
-    words = [f"{tools}/bin/rattle", "build", "--crate-name", name]
-    words += ["src/main.rt" if is_program(name) else "src/lib.rt"]
-    of_kit = [it for it in workspace.listed()[name] if it not in below]
+    words = [f"{tools}/bin/rattle", "build", "--crate-name", name, f"src/{root}"]
     for it in ("std", *of_kit):
         words += ["--extern", f"{it}={tools}/rlibs/{it}.rlib"]
     words += ["-L", f"dependency={tools}/rlibs"]
-    for it in below[name]:
+    for it in low:
         words += ["--extern", f"{it}={made_of(it)}"]
-    for it in workspace.needed(below[name], below):
+    for it in workspace.needed(low, below):
         words += ["-L", f"dependency={made_of(it).parent}"]
     words += ["--antt-project", f"{tools}/rattle/logic/antt-project.json"]
-    words += ["--logic-built", f"{tools}/logic_built", "--jobs", str(jobs), "--links", f"{name}="]
+    words += ["--logic-built", f"{tools}/logic_built", "--jobs", str(jobs)]
+    return [*words, "--links", f"{name}="]
+
+
+def words_for_object(name: str) -> list[str]:
+    """The end of that command for a program: it writes an object file."""
+    return ["--toolchain", f"{kit()}/toolchain", "--backend", "llvm", "-o", f"out/{name}.o"]
+
+
+def words_to_build(name: str, jobs: int, below: workspace.Below) -> list[str]:
+    """The command that proves a crate and writes its library or its object file."""
+    of_kit = [it for it in workspace.listed()[name] if it not in below]
+    root = "main.rt" if is_program(name) else "lib.rt"
+    words = words_over(name, root, jobs, of_kit, below[name], below)
     if not is_program(name):
         return [*words, "--statements", "-o", str(made_of(name))]
-    return [*words, "--toolchain", f"{tools}/toolchain", "--backend", "llvm", "-o", f"out/{name}.o"]
+    return [*words, *words_for_object(name)]
 
 
 def words_to_link(name: str) -> list[str]:
@@ -106,3 +119,18 @@ def build(name: str, jobs: int, below: workspace.Below, log: workspace.Path) -> 
     if status == 0 and is_program(name):
         status = workspace.run(words_to_link(name), folder, log)
     return status == 0
+
+
+def build_over(
+    crate: pathlib.Path, low: list[str], of_kit: Iterable[str], jobs: int, log: workspace.Path
+) -> bool:
+    """Proves and builds a program that is no crate of the repository over the crates `low`.
+
+    What is proved is kept in its folder `out`, and not proved again. It answers whether all is.
+    """
+    words = words_over(crate.name, "main.rt", jobs, of_kit, low, workspace.stands_on())
+    (crate / "out").mkdir(exist_ok=True)
+    words += ["--incremental", "out/incremental", *words_for_object(crate.name)]
+    if workspace.run(words, crate, log):
+        return False
+    return workspace.run(words_to_link(crate.name), crate, log) == 0

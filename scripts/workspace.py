@@ -20,6 +20,8 @@ BYTES_A_CHECK = 3_000_000_000
 Path = str | os.PathLike[str]
 # Of each crate those that it stands on.
 Below = dict[str, list[str]]
+# What `run` has started and waits for.
+RUNNING: "set[subprocess.Popen[bytes]]" = set()
 
 
 def listed() -> Below:
@@ -132,14 +134,24 @@ def make_room(room: Path, top: Path, name: str, below: Below) -> pathlib.Path:
 def run(words: Sequence[Path], folder: Path, log: Path) -> int:
     """Runs a command in a folder, what it says goes to the file `log`; answers its status."""
     with open(log, "wb") as out:
-        return subprocess.run(
+        process = subprocess.Popen(
             words,
             cwd=folder,
-            check=False,
             stdin=subprocess.DEVNULL,
             stdout=out,
             stderr=subprocess.STDOUT,
-        ).returncode
+        )
+        RUNNING.add(process)
+        try:
+            return process.wait()
+        finally:
+            RUNNING.discard(process)
+
+
+def end_all() -> None:
+    """Ends what `run` has started and waits for, as an interrupt of this program does."""
+    for process in list(RUNNING):
+        process.terminate()
 
 
 def put_out(made: Path, home: Path) -> None:

@@ -16,7 +16,8 @@ def split_uses(text: str) -> str:
     for line in text.split("\n"):
         use = NAMES_USED.match(line)
         while use and len(line) > WIDTH:
-            names, kept = [it.strip() for it in use[2].split(",")], []
+            names: list[str] = [it.strip() for it in use[2].split(",")]
+            kept: list[str] = []
             while names and len(use[1] + ", ".join([*kept, names[0]]) + use[3]) <= WIDTH:
                 kept.append(names.pop(0))
             if not kept or not names:

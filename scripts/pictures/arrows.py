@@ -72,7 +72,8 @@ def part_of(frame: Frame) -> Part:
 def title_of(message: Message, receipt: Receipt | None) -> str:
     """What is told of a message where it is pointed at."""
     body = f"body {message.body}" if message.body else "no bytes"
-    told = f"{words.message(message.name)} to process {message.to}, {body}; record {message.record}"
+    told = f"{words.message(message.name)} to {words.process(message.to)}"
+    told += f", {body}; record {message.record}" if message.is_reported else "; no send is reported"
     if receipt is None:
         return words.capital(told)
     again = " again" if isinstance(receipt.source, Recovery) else ""
@@ -108,8 +109,10 @@ def received(frame: Frame, receipt: Receipt, part: Part) -> Arrow:
     if row is None:
         above = -math.inf if message.process < receipt.process else math.inf
         return Arrow(kind, stub(end, above, -1), end, title, message, passes, has_start=False)
-    x = frame.source(receipt.source)
-    x = frame.column(message) if x is None else x
+    x = None
+    if receipt.source:
+        x = frame.source(receipt.source)
+        x = frame.column(message) if x is None else x
     if x is None:
         return Arrow(kind, stub(end, row, -1), end, title, message, passes, has_start=False)
     return Arrow(kind, (x, row), end, title, message, passes)
@@ -128,15 +131,17 @@ def sent(frame: Frame, message: Message, part: Part) -> Arrow:
 
 
 def of_marker(frame: Frame, marker: MarkerReceipt) -> Arrow | None:
-    """The arrow of a marker, if both its ends are shown."""
-    x = frame.column(marker.source)
-    if x is None or marker.source.process not in frame.rows:
-        return None
-    start = x, frame.rows[marker.source.process]
+    """The arrow of a marker, if both its ends are shown; its head where no check is known."""
     end = frame.columns[marker.place], frame.rows[marker.process]
-    title = f"Marker of round {marker.source.round} from process {marker.source.process}"
-    title += f" to process {marker.process}; record {marker.record}"
-    return Arrow("marker", start, end, title, None)
+    title = f"Marker of round {marker.round} from {words.process(marker.sender)}"
+    title += f" to {words.process(marker.process)}; record {marker.record}"
+    row = frame.rows.get(marker.sender)
+    if row is None:
+        return None
+    if marker.source is None:
+        return Arrow("marker", stub(end, row, -1), end, title, None, has_start=False)
+    x = frame.column(marker.source)
+    return None if x is None else Arrow("marker", (x, row), end, title, None)
 
 
 def arrows_of(frame: Frame) -> Iterator[Arrow]:
@@ -147,7 +152,7 @@ def arrows_of(frame: Frame) -> Iterator[Arrow]:
     ways = {
         it.message
         for it in shown
-        if isinstance(it, Receipt) and not isinstance(it.source, Recovery)
+        if isinstance(it, Receipt) and isinstance(it.source, Message)
     }
     for it in shown:
         if isinstance(it, Receipt):
@@ -214,7 +219,7 @@ def labels_of(arrow: Arrow, with_body: bool) -> Iterator[Label]:
             text, "pill", SMALL, spots + beside, is_pill=True, is_needed=True, own=arrow.segment
         )
     text = f"m{arrow.message.name.number}"
-    if with_body:
+    if with_body and arrow.message.is_reported:
         body = arrow.message.body
         text += f": {body[:MOST_BODY] or 'empty'}{'…' if len(body) > MOST_BODY else ''}"
     if not arrow.has_start:

@@ -53,7 +53,7 @@ def ticks(frame: Frame) -> list[Placed]:
 def names(frame: Frame) -> Iterator[Element]:
     """The name of each process at the left end of its line."""
     for process, y in frame.rows.items():
-        yield text(f"process {process}", "said", MARGIN, y + 4, NAME)
+        yield text(f"{words.process(process)}", "said", MARGIN, y + 4, NAME)
 
 
 def names_again(frame: Frame) -> Iterator[Label]:
@@ -64,7 +64,7 @@ def names_again(frame: Frame) -> Iterator[Label]:
             places = tuple(
                 (x + aside, y + down) for aside in (0, 40, -40, 80, -80) for down in (-12, 12)
             )
-            yield Label(f"process {process}", "faint", TICK, places)
+            yield Label(f"{words.process(process)}", "faint", TICK, places)
 
 
 def taken(frame: Frame) -> list[Box]:

@@ -8,9 +8,11 @@ from slow_model.claims import read_claim
 from . import drawing, options, program, sentences, verdicts, views
 
 ABOUT = """Says in sentences what the last recovery of a script came to: what cannot be kept and
-why, where each process goes back to, and what is sent again.
+why, where each process goes back to, and what is sent again. Of an input of `recline collect` it
+tells of the last recovery or plan.
 
     ./explain < examples/run/domino.in
+    ./explain < examples/collect/conversation.in
     ./explain --claim < examples/check/claim_not_orphan.in
 
 With --claim the input is a check text: what each entry says, and where the claim is invalid what is
@@ -28,11 +30,12 @@ def words(given: list[str]) -> argparse.Namespace:
 
 
 def of_script(path: str, text: bytes, number: int | None) -> Iterable[str]:
-    """The sentences on a recovery of a script."""
-    story = drawing.story_of(path, text)
+    """The sentences on a recovery of a script, or of reports, or on their last plan."""
+    story = drawing.story_of(path, text, with_plan=number is None)
     recovery = views.recovery_of(story, number)
     if recovery is None:
-        return ["No process goes back: the script has no recovery."]
+        or_plan = " and no plan" if story.is_fifo is None else ""
+        return [f"No process goes back: the {story.called} has no recovery{or_plan}."]
     return sentences.explanation(story, recovery)
 
 
@@ -45,7 +48,10 @@ def of_claim(path: str, text: bytes) -> Iterable[str]:
 def main(given: list[str]) -> int:
     """Explains standard input, and answers the status."""
     asked = words(given)
-    try:
+
+    def work() -> None:
+        """All of it."""
+        options.use_names(asked.names)
         text = program.read_input()
         told = (
             of_claim(asked.program, text)
@@ -53,6 +59,5 @@ def main(given: list[str]) -> int:
             else of_script(asked.program, text, asked.recovery)
         )
         program.write_output("".join(f"{line}\n" for line in told))
-    except program.Fault as fault:
-        return program.tell("explain", fault)
-    return 0
+
+    return program.status_of("explain", work)

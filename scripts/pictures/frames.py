@@ -4,6 +4,7 @@ from dataclasses import dataclass
 
 from slow_model.texts import NOW
 
+from . import words
 from .labels import width_of
 from .stories import Check, Event, Message, Recovery
 from .views import View
@@ -44,7 +45,7 @@ class Frame:
         found = self.columns.get(event.place)
         return self.earlier.get(event) if found is None and isinstance(event, Check) else found
 
-    def source(self, source: "Message | Recovery | Check") -> float | None:
+    def source(self, source: "Message | Recovery") -> float | None:
         """Where what is received starts from: replays start after their recovery."""
         return (
             self.restarts.get(source.number)
@@ -89,7 +90,7 @@ def frame_of(view: View, top: float) -> Frame:
     checks = [it for it in view.shown if isinstance(it, Check)]
     record = max((width_of(str(it.record), TICK) for it in view.shown), default=0) + 6
     apart = max([COLUMN, record, *(2 * half_width(check) + 8 for check in checks)])
-    names = max(width_of(f"process {process}", NAME) for process in view.processes)
+    names = max(width_of(f"{words.process(process)}", NAME) for process in view.processes)
     x = start = MARGIN + names + 14
     before = earlier_checks(view)
     wide = max([apart, *(2 * half_width(check) + 8 for them in before for check in them)])

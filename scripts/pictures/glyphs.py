@@ -95,8 +95,8 @@ def kind_of(check: Check, frame: Frame) -> str:
 def check_title(check: Check) -> str:
     """What is told of a check where it is pointed at."""
     if not check.index:
-        return f"Initial state of process {check.process}"
-    told = f"Checkpoint {check.index} of process {check.process}; record {check.record}"
+        return f"Initial state of {words.process(check.process)}"
+    told = f"Checkpoint {check.index} of {words.process(check.process)}; record {check.record}"
     told += f", for round {check.round}" if check.round else ""
     told += ", taken before what came in" if check.is_forced else ""
     told += f", state {check.state}" if check.state else ", no bytes stored"
@@ -194,8 +194,8 @@ def damages(frame: Frame) -> Iterator[Element]:
     for it in frame.view.shown:
         if isinstance(it, Damage):
             x, y = frame.columns[it.place], frame.rows[it.process]
-            title = f"Checkpoint {it.check.index} of process {it.process} is marked as damaged"
-            title += f"; record {it.record}"
+            title = f"Checkpoint {it.check.index} of {words.process(it.process)}"
+            title += f" is marked as damaged; record {it.record}"
             yield Element(
                 "g",
                 {},
@@ -221,8 +221,8 @@ def bars(frame: Frame) -> Iterator[Element]:
     for it in frame.view.shown:
         if isinstance(it, Bar):
             middle = frame.columns[it.place], frame.rows[it.process]
-            title = f"Process {it.process} is barred at {words.place_of(it.check.index)}"
-            title += f"; record {it.record}"
+            title = f"{words.first_process(it.process)} is barred"
+            title += f" at {words.place_of(it.check.index)}; record {it.record}"
             yield Element("g", {}, (Element("title", {}, (title,)), *bar_sign(middle)))
 
 

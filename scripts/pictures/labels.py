@@ -131,6 +131,24 @@ def crosses(box: Box, segment: Segment) -> bool:
     return first < last
 
 
+class Lines:
+    """Segments, in strips from top to bottom so that few are asked."""
+
+    def __init__(self, segments: Sequence[Segment]) -> None:
+        self.segments = segments
+        self.strips: dict[int, list[int]] = {}
+        for number, ((x, _), (to_x, _)) in enumerate(segments):
+            for strip in range(int(min(x, to_x) // CELL), int(max(x, to_x) // CELL) + 1):
+                self.strips.setdefault(strip, []).append(number)
+
+    def through(self, box: Box) -> list[Segment]:
+        """The segments that go through a box."""
+        near: set[int] = set()
+        for strip in range(int(box.left // CELL), int(box.right // CELL) + 1):
+            near.update(self.strips.get(strip, ()))
+        return [self.segments[at] for at in near if crosses(box, self.segments[at])]
+
+
 def around(boxes: Sequence[Box]) -> Box:
     """The least box around some."""
     lefts, tops, rights, bottoms = zip(*boxes)
@@ -144,7 +162,9 @@ def placed(
 
     Needed labels come first, each at the best of its free places. Those without room are told.
     """
-    room, found, left_out = Room(taken), [], []
+    room, ways = Room(taken), Lines(lines)
+    found: list[Placed] = []
+    left_out: list[Label] = []
     for label in sorted(labels, key=lambda it: not it.is_needed):
         boxes = [(place, label.box(place)) for place in label.places]
         free = [place for place, box in boxes if box.is_in(sheet) and room.is_free(box)]
@@ -152,7 +172,7 @@ def placed(
             left_out.append(label)
             continue
         reach = around([label.box(place) for place in free])
-        close = [line for line in lines if line != label.own and crosses(reach, line)]
+        close = [line for line in ways.through(reach) if line != label.own]
         costs = [sum(crosses(label.box(place), line) for line in close) for place in free]
         middle = free[costs.index(min(costs))]
         box = label.box(middle)

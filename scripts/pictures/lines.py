@@ -52,7 +52,7 @@ def recovery_lines(frame: Frame) -> Iterator[tuple[Recovery, list[Point]]]:
 
 def recovery_line(recovery: Recovery, points: list[Point]) -> Element:
     """The line of a recovery, as one bold line."""
-    stands = [f"process {it.process} {words.choice_of(it.choice)}" for it in recovery.line]
+    stands = [f"{words.process(it.process)} {words.choice_of(it.choice)}" for it in recovery.line]
     return polyline("line", points, f"Recovery line {recovery.number}: {', '.join(stands)}")
 
 
@@ -81,8 +81,8 @@ def restarts(frame: Frame, recovery: Recovery) -> Iterator[Element]:
         half = max(HALF, width_of(index, INDEX) / 2 + 3)
         state = f" with state {restart.state}" if restart.state else ""
         title = (
-            f"Process {process} goes on from {words.choice_of(restart.choice)}{state}, "
-            f"under incarnation {restart.incarnation}"
+            f"{words.first_process(process)} goes on from "
+            f"{words.choice_of(restart.choice)}{state}, under incarnation {restart.incarnation}"
         )
         yield Element(
             "g",
@@ -170,7 +170,9 @@ def round_lines(frame: Frame) -> Iterator[tuple[ListedRound, list[Point]]]:
 
 def round_line(listed: ListedRound, points: list[Point]) -> Element:
     """The line of a round, as a thin one."""
-    checks = [f"process {p} its checkpoint {check.index}" for p, check in enumerate(listed.checks)]
+    checks = [
+        f"{words.process(p)} its checkpoint {check.index}" for p, check in enumerate(listed.checks)
+    ]
     return polyline("round", points, f"Round {listed.number}: {', '.join(checks)}")
 
 

@@ -27,10 +27,10 @@ def causes(recovery: Recovery) -> str:
 
 def title(view: View) -> str:
     """What a picture shows."""
-    links = "ordered" if view.story.is_fifo else "unordered"
+    links = {True: "ordered links", False: "unordered links", None: "as they reported"}
     count = words.counted(view.story.processes, "process", "processes")
     numbers = [str(recovery.number) for recovery in view.recoveries]
-    title = f"{count}, {links} links"
+    title = f"{count}, {links[view.story.is_fifo]}"
     if not numbers:
         return title
     return f"{title}; {'recovery' if len(numbers) == 1 else 'recoveries'} {words.listed(numbers)}"
@@ -65,7 +65,7 @@ def description(view: View) -> str:
 
 def stands(restart: Restart) -> str:
     """Where the line is at a process."""
-    return f"process {restart.process} {words.at_choice(restart.choice)}"
+    return f"{words.process(restart.process)} {words.at_choice(restart.choice)}"
 
 
 # Why a choice cannot be kept.
@@ -74,15 +74,15 @@ def stands(restart: Restart) -> str:
 def cannot(process: int, choice: Choice) -> str:
     """That a choice of a process cannot be kept."""
     if choice == NOW:
-        return f"process {process} cannot stay where it stands"
-    return f"process {process} cannot go on from {words.choice_of(choice)}"
+        return f"{words.process(process)} cannot stay where it stands"
+    return f"{words.process(process)} cannot go on from {words.choice_of(choice)}"
 
 
 def not_sent(sender: int, ceiling: Choice) -> str:
     """That the sender of an orphan has not sent it by its ceiling."""
     if ceiling == NOW:
-        return f"process {sender}, even where it stands, has not sent it"
-    return f"process {sender}, back at {words.choice_of(ceiling)} by then, has not sent it"
+        return f"{words.process(sender)}, even where it stands, has not sent it"
+    return f"{words.process(sender)}, back at {words.choice_of(ceiling)} by then, has not sent it"
 
 
 def orphan(process: int, choice: Choice, name: Name, ceiling: Choice) -> str:
@@ -124,16 +124,19 @@ def explanation(story: Story, recovery: Recovery) -> Iterator[str]:
     yield "The recovery line:"
     yield from (f"  {goes_on(it)}" for it in recovery.line)
     yield from again(recovery)
-    if recovery.bars:
+    if recovery.bars and not recovery.is_plan:
         barred = words.capital(words.processes(tuple(recovery.bars)))
         yield f"{barred} {words.are(len(recovery.bars))} barred no longer."
 
 
 def headline(story: Story, recovery: Recovery) -> str:
-    """Which recovery it is."""
+    """Which recovery it is, or plan."""
+    where = f"at record {recovery.record} of the {story.called}"
+    if recovery.is_plan:
+        return f"The plan {where}, which changes nothing: as if {causes(recovery)}."
     count = len(story.recoveries)
     which = f"Recovery {recovery.number}" + (f" of {count}" if count > 1 else "")
-    return f"{which}, at record {recovery.record} of the script: {causes(recovery)}."
+    return f"{which}, {where}: {causes(recovery)}."
 
 
 def beginning(story: Story, recovery: Recovery) -> Iterator[str]:
@@ -147,7 +150,7 @@ def beginning(story: Story, recovery: Recovery) -> Iterator[str]:
         first = recovery.first_ceilings[process]
         goes = "" if number else " goes back"
         marks = skipped(recovery, process, first)
-        parts.append(f"process {process}{goes} to {words.choice_of(first)}{marks}")
+        parts.append(f"{words.process(process)}{goes} to {words.choice_of(first)}{marks}")
     yield f"{cannot_stay(recovery)}: to begin with, {words.listed(parts)}."
     if len(back) < story.processes:
         yield "Each other process could stay where it stands."
@@ -204,10 +207,11 @@ def entries(recovery: Recovery) -> Iterator[str]:
 def goes_on(restart: Restart) -> str:
     """Where a process goes on from."""
     if restart.choice == NOW:
-        return f"Process {restart.process} stays where it stands."
+        return f"{words.first_process(restart.process)} stays where it stands."
     state = f", with the state {restart.state} that it stored there" if restart.state else ""
     lost = len(restart.lost)
-    back = f"Process {restart.process} goes back to {words.choice_of(restart.choice)}{state}"
+    back = f"{words.first_process(restart.process)} goes back to "
+    back += f"{words.choice_of(restart.choice)}{state}"
     undone = f"{words.counted(lost, 'event')} {words.are(lost)} undone"
     return f"{back}; {undone}. It goes on under incarnation {restart.incarnation}."
 
@@ -236,9 +240,10 @@ def in_transit(recovery: Recovery, message: Message) -> str:
     if start.choice != NOW:
         told += f" was sent before {words.choice_at(start.process, start.choice)}"
     else:
-        told += f" was sent, and process {start.process} stays where it stands"
-    undone = next((it for it in message.receipts if it.cut_by is recovery), None)
+        told += f" was sent, and {words.process(start.process)} stays where it stands"
+    receipts = [it for it in message.receipts if it.process == message.to]
+    undone = next((it for it in receipts if it.cut_by is recovery), None)
     if undone is None:
-        return f"{told}; it has not arrived at process {message.to}."
+        return f"{told}; it has not arrived at {words.process(message.to)}."
     place = words.choice_at(end.process, end.choice)
     return f"{told}; it had not arrived before {place}, and its receipt after that is undone."

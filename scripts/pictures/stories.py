@@ -1,4 +1,4 @@
-"""What happened: a script and its replies as events on the lines of processes.
+"""What happened: a script, or reports, and the replies as events on the lines of processes.
 
 A **story** is told once, from the first record to the last. Which check, which message and which
 line are meant is what the replies say; of the machine only this is done anew, that a recovery takes
@@ -13,7 +13,8 @@ from slow_model.texts import NOW
 
 from .texts import Choice, Command, Fields, Script, read_choice
 
-NO_EFFECT = {"refused", "stale", "repeated"}
+NO_EFFECT = {"refused", "stale", "repeated", "late", "unfit", "faulty"}
+UNREPORTED = -1  # the place of a send that no report tells of so far
 
 
 @dataclass(slots=True, eq=False)
@@ -39,27 +40,40 @@ class Check(Event):
 
 @dataclass(slots=True, kw_only=True, eq=False)
 class Message(Event):
-    """A message was sent: its name, whom it goes to, its bytes as written, and its receipts."""
+    """A message was sent: its name, whom it goes to, its bytes as written, and its receipts.
+
+    In reports one may be received whose send is not reported: that stands nowhere.
+    """
 
     name: Name
     to: int
     body: str
     receipts: "list[Receipt]" = field(default_factory=list)
 
+    @property
+    def is_reported(self) -> bool:
+        """Whether its send stands somewhere."""
+        return self.place != UNREPORTED
+
 
 @dataclass(slots=True, kw_only=True, eq=False)
 class Receipt(Event):
-    """A message was received, from its send, or from the recovery that sent it again."""
+    """A message was received, from its send, or from the recovery that sent it again.
+
+    There is no source where the send was not reported by the next recovery.
+    """
 
     message: Message
-    source: "Message | Recovery"
+    source: "Message | Recovery | None"
 
 
 @dataclass(slots=True, kw_only=True, eq=False)
 class MarkerReceipt(Event):
-    """The marker of a round came in, from its sender's check of the round."""
+    """The marker of a round came in, from its sender's check of the round if that is known."""
 
-    source: Check
+    sender: int
+    round: int
+    source: Check | None
 
 
 @dataclass(slots=True, kw_only=True, eq=False)
@@ -105,7 +119,8 @@ class Pass:
 class Recovery:
     """A recovery: its number from 1, who failed, the line, the certificate and the replays.
 
-    `bars` has the bar of each process that was barred by then, in the order of the processes.
+    `bars` has the bar of each process that was barred by then, in the order of the processes. A
+    plan is told as a recovery that the story ends with.
     """
 
     place: int
@@ -117,6 +132,7 @@ class Recovery:
     passes: list[Pass]
     replays: list[Message]
     first_ceilings: list[Choice]
+    is_plan: bool
 
 
 @dataclass(frozen=True, slots=True, eq=False)
@@ -134,13 +150,18 @@ class Story:
     """All of it. `idle` counts the records without an effect, by what was answered."""
 
     processes: int
-    is_fifo: bool
+    is_fifo: bool | None
     records: int
     initial: list[Check]
     events: list[Event | Recovery] = field(default_factory=list)
     recoveries: list[Recovery] = field(default_factory=list)
     rounds: dict[int, ListedRound] = field(default_factory=dict)
     idle: dict[str, int] = field(default_factory=dict)
+
+    @property
+    def called(self) -> str:
+        """What its text is called."""
+        return "input" if self.is_fifo is None else "script"
 
 
 class Teller:
@@ -212,17 +233,27 @@ class Teller:
     def tell_send(self, command: Command, name: Name) -> None:
         """A message was sent."""
         to, body = int(command.fields[1]), command.fields[2].lower()
-        message = Message(*self.at(command, name.sender), name=name, to=to, body=body)
-        self.messages[name] = message
+        message = self.message_of(name, to)
+        message.place, message.record, _ = self.at(command, name.sender)
+        message.to, message.body = to, body
+        for receipt in message.receipts:
+            if not receipt.cut_by:
+                receipt.source = message
         self.add(message)
+
+    def message_of(self, name: Name, to: int) -> Message:
+        """The message of that name, which goes to a process unless more is known of it."""
+        new = Message(UNREPORTED, 0, name.sender, name=name, to=to, body="")
+        return self.messages.setdefault(name, new)
 
     def tell_receipt(self, command: Command, name: Name, of_round: str) -> None:
         """A message was received, after a check of its round where that was forced."""
-        process, message = int(command.fields[1]), self.messages[name]
+        process = int(command.fields[1])
+        message = self.message_of(name, process)
         if of_round != "-":
             self.force_check(command, process, int(of_round))
-        source: Message | Recovery = message
-        if self.story.recoveries and self.story.recoveries[-1].place > source.place:
+        source: Message | Recovery | None = message if message.is_reported else None
+        if source and self.story.recoveries and self.story.recoveries[-1].place > message.place:
             source = self.story.recoveries[-1]
         receipt = Receipt(*self.at(command, process), message=message, source=source)
         message.receipts.append(receipt)
@@ -233,7 +264,10 @@ class Teller:
         sender, process = int(command.fields[0]), int(command.fields[1])
         if is_forced:
             self.force_check(command, process, number)
-        self.add(MarkerReceipt(*self.at(command, process), source=self.of_round[sender, number]))
+        check = self.of_round.get((sender, number))
+        source = None if check and check.cut_by else check
+        at = self.at(command, process)
+        self.add(MarkerReceipt(*at, sender=sender, round=number, source=source))
 
     def tell_damage(self, command: Command, process: int, index: int) -> None:
         """A check was marked as damaged."""
@@ -277,6 +311,7 @@ class Teller:
             passes=[],
             replays=[],
             first_ceilings=[],
+            is_plan=command.name != "recover",
         )
         entries = [values for kind, *values in records if kind == "pass"]
         lines = [values for kind, *values in records if kind == "line"]
@@ -302,7 +337,7 @@ class Teller:
         ceilings[process] = choice
         check = None if choice == NOW else self.checks[process][int(choice)]
         receipt = next(
-            it for it in reversed(message.receipts) if it.cut_by is None and it.process == process
+            it for it in message.receipts if it.cut_by is None and it.process == process
         )
         return Pass(number, process, choice, check, message, receipt, ceiling)
 

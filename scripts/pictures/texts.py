@@ -6,6 +6,7 @@ from typing import NamedTuple
 from slow_model.texts import NOW
 
 Fields = list[str]
+Reply = list[Fields]
 Choice = float  # the index of a check, or NOW, which is later than each
 ANSWERS = {
     "sent",
@@ -19,6 +20,7 @@ ANSWERS = {
     "damaged",
     "barred",
     "recovered",
+    "planned",
     "rounds",
     "history",
     "refused",
@@ -34,10 +36,13 @@ class Command(NamedTuple):
 
 
 class Script(NamedTuple):
-    """How many processes there are, whether links keep their order, and the commands."""
+    """How many processes there are, whether links keep their order, and the commands.
+
+    Of links that nothing is known of, as in reports, it is none.
+    """
 
     processes: int
-    is_fifo: bool
+    is_fifo: bool | None
     commands: list[Command]
 
 
@@ -57,12 +62,12 @@ def read_choice(field: str) -> Choice:
     return NOW if field == "now" else int(field)
 
 
-def read_replies(output: bytes) -> Iterator[list[Fields]]:
+def read_replies(output: bytes) -> Iterator[Reply]:
     """The records of each reply, in the order of the commands.
 
     A bundle is a history with a claim after it, so that its records go on to its `end`.
     """
-    reply: list[Fields] = []
+    reply: Reply = []
     for line in output.decode("ascii").splitlines():
         fields = line.split(",")
         if reply and fields[0] in ANSWERS:

@@ -7,7 +7,7 @@ from slow_model.claims import Claim
 from slow_model.histories import Check, Entry, Name, Recv, Send
 from slow_model.texts import NOW
 
-from . import sentences, words
+from . import answers, sentences, words
 from .texts import Choice
 
 MOST_NAMED = 6  # so many messages are listed
@@ -78,15 +78,18 @@ def explanation(claim: Claim, verdict: str) -> Iterator[str]:
     else:
         tapes = tapes_of(claim)
         ceilings = [tape.surviving[-1] for tape in tapes]
-        yield from entries(claim, tapes, ceilings, fault, code)
-        if kind == "valid":
+        is_of_answer = code in answers.CODES
+        yield from entries(claim, tapes, ceilings, None if is_of_answer else fault, code)
+        if kind == "valid" or is_of_answer:
             yield valid(claim)
+            if claim.starts:
+                yield from answers.explanation(claim, fault, code)
         elif code == "LineDiffers":
             yield words.capital(f"{other_line(claim, ceilings)}.")
         elif code == "NotConsistent":
             yield words.capital(f"{inconsistent(claim, tapes)}.")
     yield f"The verdict: {verdict.strip()}"
-    if fault is not None:
+    if fault is not None and code not in answers.CODES:
         yield f"It counts the entries from 0: its entry {fault} is number {fault + 1} of this list."
 
 
@@ -121,10 +124,13 @@ def claimed(claim: Claim) -> Iterator[str]:
     for p, check in sorted(claim.marks.damaged):
         by_process.setdefault(p, []).append(check)
     for p, checks in by_process.items():
-        parts.append(f"{words.checks(checks)} of process {p} {words.are(len(checks))} damaged")
+        are = words.are(len(checks))
+        parts.append(f"{words.checks(checks)} of {words.process(p)} {are} damaged")
     for p, check in sorted(claim.marks.bars.items()):
-        parts.append(f"process {p} is barred at {words.choice_of(check)}")
-    stands = [f"process {p} {words.at_choice(choice)}" for p, choice in enumerate(claim.line)]
+        parts.append(f"{words.process(p)} is barred at {words.choice_of(check)}")
+    stands = [
+        f"{words.process(p)} {words.at_choice(choice)}" for p, choice in enumerate(claim.line)
+    ]
     line = f"The latest line that can be gone on from is then {words.listed(stands)}."
     yield f"The claim: {words.listed(parts)}. {line}"
 
@@ -142,30 +148,31 @@ def wrong(entry: Entry, name: str, tapes: list[Tape], ceilings: list[Choice]) ->
         some = words.listed([*names[:MOST_NAMED], *(["others"] if len(names) > MOST_NAMED else [])])
         got = f"what it has received is {some}" if names else "it has received nothing"
         before = "" if entry.choice == NOW else f"before {words.choice_of(entry.choice)} "
-        return f"{before}process {entry.at} has not received {words.message(entry.message)}; {got}"
+        has_not = f"{words.process(entry.at)} has not received {words.message(entry.message)}"
+        return f"{before}{has_not}; {got}"
     left = ceilings[sender]
     before = " by now"
     if left != NOW:
         before = f" before {words.choice_of(left)}, from which it can still go on"
     return (
-        f"process {sender} has sent that message{before}, so that nothing speaks against "
-        f"process {entry.at} having received it"
+        f"{words.process(sender)} has sent that message{before}, so that nothing speaks against "
+        f"{words.process(entry.at)} having received it"
     )
 
 
 def not_top(entry: Entry, tape: Tape, ceiling: Choice) -> str:
     """That an entry passes over another choice than the latest one that is left."""
     place = words.choice_of(ceiling)
-    left = f"the latest place that process {entry.at} can still go on from is {place}"
+    left = f"the latest place that {words.process(entry.at)} can still go on from is {place}"
     if entry.choice < ceiling and entry.choice in tape.surviving:
         return f"{left}, and that has to be given up before {words.choice_of(entry.choice)}"
     if entry.choice in tape.surviving:
         gone = f"{words.choice_of(entry.choice)} is given up already"
     elif entry.choice > tape.bar:
-        bar = f"process {entry.at} is barred at {words.choice_of(tape.bar)}"
+        bar = f"{words.process(entry.at)} is barred at {words.choice_of(tape.bar)}"
         gone = f"{bar}, and {words.choice_of(entry.choice)} is later than that"
     elif entry.choice == NOW:
-        gone = f"process {entry.at} failed, and where it stands is lost"
+        gone = f"{words.process(entry.at)} failed, and where it stands is lost"
     else:
         gone = f"{words.choice_of(entry.choice)} is damaged, and never one to go on from"
     return f"{gone}; {left}"
@@ -182,7 +189,8 @@ def unread(claim: Claim, number: int) -> Iterator[str]:
 def other_line(claim: Claim, ceilings: list[Choice]) -> str:
     """Where the entries lead to another line."""
     parts = [
-        f"process {p} to {words.choice_of(left)}, where the claim has {words.choice_of(choice)}"
+        f"{words.process(p)} to {words.choice_of(left)}, "
+        f"where the claim has {words.choice_of(choice)}"
         for p, (left, choice) in enumerate(zip(ceilings, claim.line))
         if left != choice
     ]
@@ -197,10 +205,11 @@ def inconsistent(claim: Claim, tapes: list[Tape]) -> str:
         for name in tapes[p].received(choice):
             if not tapes[name.sender].sent(name, claim.line[name.sender]):
                 receipt = (
-                    f"process {p}, {words.at_choice(choice)}, has received {words.message(name)}"
+                    f"{words.process(p)}, {words.at_choice(choice)}, "
+                    f"has received {words.message(name)}"
                 )
                 ends = words.choice_of(claim.line[name.sender])
-                none = f"process {name.sender} has not sent it before {ends}"
+                none = f"{words.process(name.sender)} has not sent it before {ends}"
                 return f"that line cannot be gone on from: {receipt}, and {none}"
     return "a message is received before that line that is not sent before it"
 

@@ -48,30 +48,36 @@ def recovery_of(story: Story, number: int | None) -> Recovery | None:
         return story.recoveries[-1] if story.recoveries else None
     if not 1 <= number <= len(story.recoveries):
         has = words.counted(len(story.recoveries), "recovery", "recoveries")
-        raise Fault(FAULT, f"there is no recovery {number}: the script has {has}")
+        raise Fault(FAULT, f"there is no recovery {number}: the {story.called} has {has}")
     return story.recoveries[number - 1]
 
 
-def crossing(recovery: Recovery) -> list[Message]:
-    """The replays from or to a process that goes back; the rest is on its way whatever failed."""
-    return [
-        message
-        for message in recovery.replays
-        if min(recovery.line[message.process].choice, recovery.line[message.to].choice) != NOW
-    ]
+def sent_again(recovery: Recovery) -> list[Message]:
+    """The replays: first those from or to a process that goes back, whom the recovery is about.
+
+    The rest is on its way whatever failed.
+    """
+
+    def is_between_others(message: Message) -> bool:
+        """Whether both its ends stay where they are."""
+        line = recovery.line
+        return min(line[message.process].choice, line[message.to].choice) == NOW
+
+    return sorted(recovery.replays, key=is_between_others)
 
 
 def spoken_of(recovery: Recovery) -> Iterator[list[Event]]:
     """What a recovery speaks of, in groups: the entries in order, marks on checks, replays."""
     for entry in recovery.passes:
-        yield [entry.message, entry.receipt, *([entry.check] if entry.check else [])]
+        sent = [entry.message] if entry.message.is_reported else []
+        yield [*sent, entry.receipt, *([entry.check] if entry.check else [])]
     for restart in recovery.line:
         for check in restart.lost:
             if isinstance(check, Check) and check.damage:
                 yield [check, check.damage]
     for bar in recovery.bars.values():
         yield [*([bar.check] if bar.check.index else []), bar]
-    for message in crossing(recovery):
+    for message in sent_again(recovery):
         yield [message, *(it for it in message.receipts if recovery in (it.cut_by, it.source))]
 
 
@@ -103,7 +109,7 @@ def partners(it: Event) -> tuple[int, ...]:
         return it.process, it.to
     if isinstance(it, Receipt):
         return it.process, it.message.process
-    return (it.process, it.source.process) if isinstance(it, MarkerReceipt) else (it.process,)
+    return (it.process, it.sender) if isinstance(it, MarkerReceipt) else (it.process,)
 
 
 def among(story: Story, chosen: tuple[int, ...], last: int) -> Events:
@@ -125,8 +131,9 @@ def among(story: Story, chosen: tuple[int, ...], last: int) -> Events:
 
 def last_records(events: Events, count: int) -> Events:
     """The events of so many last records; a record has two where it had a check taken first."""
-    records = sorted({it.record for it in events[-2 * count :]})[-count:]
-    return [it for it in events[-2 * count :] if it.record >= records[0]] if records else []
+    late = events[-2 * count :]
+    records = set(list(dict.fromkeys(it.record for it in reversed(late)))[:count])
+    return [it for it in late if it.record in records]
 
 
 def view_of(story: Story, wish: Wish) -> View:
@@ -137,7 +144,7 @@ def view_of(story: Story, wish: Wish) -> View:
     """
     if beyond := [p for p in wish.processes if p >= story.processes]:
         has = words.counted(story.processes, "process", "processes")
-        raise Fault(FAULT, f"there is no process {beyond[0]}: the script has {has}")
+        raise Fault(FAULT, f"there is no process {beyond[0]}: the {story.called} has {has}")
     recovery = recovery_of(story, wish.recovery)
     last = recovery.place if recovery and wish.recovery else len(story.events)
     chosen = tuple(sorted(set(wish.processes))) or tuple(range(story.processes))
@@ -164,11 +171,19 @@ def finished(
     }
     notes = [
         *notes_on_records(story, every, shown, focus),
+        *notes_on_replays(shown),
         *notes_on_processes(story, chosen),
+        *notes_on_order(shown),
         *notes_on_idle(story),
     ]
     is_from_start = every[:1] == shown[:1]
     return View(story, chosen, tuple(shown), frozenset(gaps), is_from_start, tuple(notes))
+
+
+def is_shown(message: Message, recovery: Recovery, places: set[int]) -> bool:
+    """Whether a replay is to be seen: by its send, or by its receipt after the recovery."""
+    again = (it.place for it in message.receipts if it.source is recovery)
+    return message.place in places or not places.isdisjoint(again)
 
 
 def notes_on_records(
@@ -191,11 +206,18 @@ def notes_on_records(
             )
             where = f"of recovery {recovery.number}: ./explain tells of all"
             notes.append(f"So {words.are(len(numbers))} {what} {where}.")
-        again = [it for it in recovery.replays if it.place not in places]
-        if again:
-            many = words.counted(len(again), "message")
-            notes.append(f"So {words.are(len(again))} {many} that it sends again.")
     return notes
+
+
+def notes_on_replays(shown: Events) -> Iterator[str]:
+    """What is said of the messages that are sent again and not shown."""
+    places = {it.place for it in shown}
+    for recovery in [it for it in shown if isinstance(it, Recovery)]:
+        again = [it for it in recovery.replays if not is_shown(it, recovery, places)]
+        if again:
+            many = words.capital(words.counted(len(again), "message"))
+            which = f"that recovery {recovery.number} sends again"
+            yield f"{many} {which} {words.are(len(again))} left out: ./explain tells of all."
 
 
 def notes_on_processes(story: Story, chosen: tuple[int, ...]) -> list[str]:
@@ -205,12 +227,22 @@ def notes_on_processes(story: Story, chosen: tuple[int, ...]) -> list[str]:
     return [f"{words.capital(words.processes(hidden))} {are} left out."] if hidden else []
 
 
+def notes_on_order(shown: Events) -> list[str]:
+    """What is said where reports do not stand as they came."""
+    records = [it.record for it in shown]
+    moved = "Where it can, a send stands before its receipts, and not in the order of the input."
+    return [] if records == sorted(records) else [moved]
+
+
 def notes_on_idle(story: Story) -> list[str]:
     """What is said of records without an effect."""
     what = {
         "refused": ("refused command", "refused commands"),
         "stale": ("delivery of a stale copy", "deliveries of stale copies"),
         "repeated": ("delivery of a repeated copy", "deliveries of repeated copies"),
+        "late": ("stale report", "stale reports"),
+        "unfit": ("refused record", "refused records"),
+        "faulty": ("faulty record", "faulty records"),
     }
     found = [words.counted(count, *what[kind]) for kind, count in story.idle.items()]
     return [f"Without effect, and not shown: {words.listed(found)}."] if found else []

@@ -1,11 +1,34 @@
 """The words that pictures and sentences share."""
 
 from collections.abc import Sequence
+from dataclasses import dataclass, field
 
 from slow_model.histories import Name
 from slow_model.texts import NOW
 
 from .texts import Choice
+
+
+@dataclass
+class Names:
+    """How a computation calls its processes and messages, where that is told."""
+
+    processes: dict[int, str] = field(default_factory=dict)
+    messages: dict[Name, str] = field(default_factory=dict)
+
+
+# The names that all words are said by, which are told once.
+NAMES = Names()
+
+
+def process(number: int) -> str:
+    """A process, by its name or its number."""
+    return NAMES.processes.get(number, f"process {number}")
+
+
+def first_process(number: int) -> str:
+    """A process where a sentence begins. A name stays as it is."""
+    return NAMES.processes.get(number, f"Process {number}")
 
 
 def choice_of(choice: Choice) -> str:
@@ -15,15 +38,12 @@ def choice_of(choice: Choice) -> str:
     return "its initial state" if choice == 0 else f"its checkpoint {choice:.0f}"
 
 
-def choice_at(process: int, choice: Choice) -> str:
+def choice_at(number: int, choice: Choice) -> str:
     """A choice, with its process."""
     if choice == NOW:
-        return f"where process {process} stands"
-    return (
-        f"the initial state of process {process}"
-        if choice == 0
-        else f"checkpoint {choice:.0f} of process {process}"
-    )
+        return f"where {process(number)} stands"
+    of_it = f"of {process(number)}"
+    return f"checkpoint {choice:.0f} {of_it}" if choice else f"the initial state {of_it}"
 
 
 def place_of(index: int) -> str:
@@ -39,7 +59,8 @@ def at_choice(choice: Choice) -> str:
 def message(name: Name) -> str:
     """A message by its name. The first incarnation of its sender, 0, is not told."""
     under = f" (sent under incarnation {name.incarnation})" if name.incarnation else ""
-    return f"message {name.number} of process {name.sender}{under}"
+    called = NAMES.messages.get(name, str(name.number))
+    return f"message {called} of {process(name.sender)}{under}"
 
 
 def counted(count: int, one: str, many: str = "") -> str:
@@ -78,9 +99,14 @@ def ranges(numbers: Sequence[int]) -> list[str]:
 
 def processes(numbers: Sequence[int]) -> str:
     """Some processes, at least one."""
+    if not NAMES.processes.keys().isdisjoint(numbers):
+        return listed([process(number) for number in numbers])
     return ("process " if len(numbers) == 1 else "processes ") + listed(ranges(numbers))
 
 
 def capital(sentence: str) -> str:
-    """A sentence with its first letter large."""
+    """A sentence with its first letter large. A name that it begins with stays as it is."""
+    begins = tuple(f"{name} " for name in NAMES.processes.values())
+    if sentence.startswith(begins) and not sentence.startswith("a process that"):
+        return sentence
     return sentence[:1].upper() + sentence[1:]

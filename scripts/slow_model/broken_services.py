@@ -6,12 +6,11 @@ import os
 from collections.abc import Iterator
 
 from .machine import Records
-from .scripts import answer as answered
-from .scripts import command_of
 from .service import LINE, MOST_LINE, Service
 from .texts import Fault
 
 NO_MEMORY = b"fault,0,OutOfMemory\n\n"
+EVENTS = ("check", "send", "deliver", "recv")
 COUNT_BYTES = 24  # of the file of counts that `preloaded.c` keeps, the first eight for requests
 
 
@@ -45,9 +44,9 @@ class DoesFaulty(Service):
         try:
             return super().record(fields)
         except Fault as fault:
-            if self.world and fault.code == 32 and fields[0] in ("check", "send", "deliver"):
+            if self.stands() and fault.code == 32 and fields[0] in EVENTS:
                 with contextlib.suppress(Fault):
-                    answered(self.world, *command_of(fields[:-1] or fields))
+                    super().record(fields[:-1] or fields)
             raise
 
 
@@ -56,7 +55,7 @@ class EndsNoRefusal(Service):
 
     def answer_to(self, line: bytes, may_end: bytes) -> bytes:
         answer = super().answer_to(line, may_end)
-        return answer[:-1] if answer.startswith(b"refused,17") else answer
+        return answer[:-1] if answer.startswith((b"refused,17", b"refused,47")) else answer
 
 
 class ReadsTheRest(Service):
@@ -88,11 +87,11 @@ class SpoilsPieces(Service):
 
 
 class BeginsAnew(Service):
-    """A later world takes the place of the first one."""
+    """A later world, or a later `reports`, takes the place of the first one."""
 
     def record(self, fields: list[str]) -> tuple[Records, int]:
-        if fields[0] == "world":
-            self.world = None
+        if fields[0] == self.first:
+            self.forget()
         return super().record(fields)
 
 
@@ -138,11 +137,11 @@ class Exchanges(Service):
 class TellsFirstStatus(Service):
     """The status is that of the first record that is not done."""
 
-    first = 0
+    told = 0
 
     def answer_to(self, line: bytes, may_end: bytes) -> bytes:
         it = super().answer_to(line, may_end)
-        self.status = self.first = self.first or self.status
+        self.status = self.told = self.told or self.status
         return it
 
 

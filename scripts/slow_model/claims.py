@@ -2,13 +2,13 @@
 
 from collections.abc import Callable, Iterator, Sequence
 from dataclasses import dataclass, field
-from typing import Any
+from typing import Any, NamedTuple
 
 from .histories import Check, Entry, Event, History, Line, Mark, Marks, Name, Recv, Send
 from .texts import (
     MOST_BODY, MOST_EVENTS, MOST_STATE, NAMES, NOW, Answer, Fault, Record, choice, fields_of,
     first_record, hexadecimal, incarnation, most_in, number, numbered, records_of, round_number,
-    round_or_none, told, want, written,
+    round_or_none, state_or_none, told, want, written,
 )
 
 READERS: dict[str, list[Callable[[str], Any]]] = {
@@ -20,25 +20,50 @@ READERS: dict[str, list[Callable[[str], Any]]] = {
     "damage": [number, number],
     "bar": [number, number],
     "pass": [number, choice, number, incarnation, number],
+    "start": [number, incarnation, state_or_none],
+    "replay": [number, incarnation, number, number, number, hexadecimal],
     "end": [],
 }
+
+
+class Start(NamedTuple):
+    """The incarnation that a process goes on in, and its stored state, none where it stands."""
+    incarnation: int
+    state: bytes | None
+
+
+class Replay(NamedTuple):
+    """A message that is sent again: its addressee, its send's place on the tape, and its body."""
+    message: Name
+    to: int
+    place: int
+    body: bytes
 
 
 @dataclass
 class Claim:
     """That a line is the latest of a history, for some marks and a failed set.
 
-    The entries show it.
+    The entries show it. A whole answer has a start for each process, and the messages that are sent
+    again; a claim of versions 1 and 2 has neither.
     """
     history: History
     marks: Marks = field(default_factory=Marks)
     failed: set[int] = field(default_factory=set)
     line: Line = field(default_factory=list)
     entries: list[Entry] = field(default_factory=list)
+    starts: list[Start] = field(default_factory=list)
+    replays: list[Replay] = field(default_factory=list)
+
+    def version(self) -> int:
+        """The version that the claim is written in by itself."""
+        if self.starts:
+            return 3
+        return 2 if self.marks.bars else self.history.version()
 
     def records(self) -> Iterator[Record]:
         """The check text of the claim, record by record."""
-        yield from self.history.records(2 if self.marks.bars else self.history.version())
+        yield from self.history.records(self.version())
         for p, check in sorted(self.marks.damaged):
             yield "damage", p, check
         for p, check in sorted(self.marks.bars.items()):
@@ -47,6 +72,10 @@ class Claim:
         yield "line", *self.line
         for at, passed, message in self.entries:
             yield "pass", at, passed, *message
+        for p, start in enumerate(self.starts):
+            yield "start", p, *start
+        for replay in self.replays:
+            yield "replay", *replay.message, *replay[1:]
         yield ("end",)
 
     def has_shape(self) -> bool:
@@ -75,7 +104,43 @@ class Claim:
             ceilings[at] = self.history.next_lower(self.marks, at, passed)
         if ceilings != self.line:
             return None, 14
-        return None if self.history.is_consistent(self.line) else (None, 15)
+        if not self.history.is_consistent(self.line):
+            return None, 15
+        return self.fault_of_answer() if self.starts else None
+
+    def right_starts(self) -> list[Start]:
+        """Where each process goes on after a restart at the line."""
+        history, stays = self.history, [passed == NOW for passed in self.line]
+        return [
+            Start(history.incarnations[p] + (not stays[p]), history.stored(p, self.line[p]))
+            for p in history.processes()
+        ]
+
+    def right_replays(self) -> list[Replay]:
+        """The messages in transit at the line, by sender and number."""
+        history = self.history
+        return [
+            Replay(name, to, *history.send_of(name)) for name, to in history.in_transit(self.line)
+        ]
+
+    def fault_of_answer(self) -> tuple[int | None, int] | None:
+        """The first fault of the starts and the replays, of a claim whose line is right."""
+        for p, (start, right_start) in enumerate(zip(self.starts, self.right_starts())):
+            if start.state != right_start.state:
+                return p, 41
+            if start.incarnation != right_start.incarnation:
+                return p, 42
+        right = self.right_replays()
+        names = [replay.message for replay in right]
+        given = [replay.message for replay in self.replays]
+        for i, replay in enumerate(self.replays):
+            if given[i] not in names:
+                return i, 43
+            if replay not in right:
+                return i, 44
+            if i and names.index(given[i]) <= names.index(given[i - 1]):
+                return i, 45
+        return None if given == names else (None, 46)
 
 
 class Reading:
@@ -99,7 +164,14 @@ class Reading:
             return False
         if kind in ("bar", "failed"):
             return self.part in ("tapes", "damages", "bars") and has_all
-        return self.part == {"line": "failed", "pass": "line", "end": "line"}.get(kind)
+        if kind in ("line", "pass"):
+            return self.part == {"line": "failed", "pass": "line"}[kind]
+        if self.version < 3:
+            return kind == "end" and self.part == "line"
+        has_all = len(self.claim.starts) == self.n
+        if kind == "start":
+            return self.part in ("line", "starts") and not has_all
+        return kind in ("replay", "end") and self.part == "starts" and has_all
 
     def read(self, fields: Sequence[str]) -> None:
         """Takes the next record."""
@@ -182,6 +254,21 @@ class Reading:
         """An entry of the certificate."""
         self.known(at, sender)
         self.claim.entries.append(Entry(at, passed, Name(sender, inc, count)))
+
+    def read_start(self, p: int, inc: int, state: bytes | None) -> None:
+        """Where the next process goes on."""
+        self.known(p)
+        want(p == len(self.claim.starts), 32)
+        want(len(state or b"") <= MOST_STATE, 5)
+        self.claim.starts.append(Start(inc, state))
+        self.part = "starts"
+
+    def read_replay(self, *fields: Any) -> None:
+        """A message that is sent again."""
+        sender, inc, count, to, place, body = fields
+        self.known(sender, to)
+        want(len(body) <= MOST_BODY, 2)
+        self.claim.replays.append(Replay(Name(sender, inc, count), to, place, body))
 
     def read_end(self) -> None:
         """The last record."""

@@ -120,6 +120,13 @@ class History:
         sends = among(Send, self.front(p, choice))
         return [(Name(p, send.incarnation, number), send.to) for number, send in enumerate(sends)]
 
+    def send_of(self, message: Name) -> tuple[int, bytes]:
+        """The place of a message's send on the tape of its sender, and its body."""
+        tape = enumerate(self.tapes[message.sender])
+        sends = [(place, event) for place, event in tape if isinstance(event, Send)]
+        place, send = sends[message.number]
+        return place, send.body
+
     def received(self, p: int, choice: int = NOW) -> list[Name]:
         """The messages received before a choice."""
         return [event.message for event in among(Recv, self.front(p, choice))]

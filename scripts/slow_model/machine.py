@@ -19,6 +19,13 @@ class Round(NamedTuple):
     channels: list[tuple[int, int, Name]]
 
 
+class Recovery(NamedTuple):
+    """A recovery: its line, what is sent again and to whom, and the records that tell of it."""
+    line: Line
+    replays: list[tuple[Name, int]]
+    records: Records
+
+
 class World:
     """A history, marks, the last round begun, listed rounds, and copies without order."""
 
@@ -166,15 +173,26 @@ class World:
         self.marks.bars[at] = check
         return [("barred", at, check)]
 
-    def recover(self, *failed: int) -> Records:
-        """Goes on from the line that is planned for these failed processes."""
+    def planned(self, word: str, failed: Sequence[int]) -> Recovery:
+        """The recovery where these processes failed, which changes nothing here."""
         self.known(*failed)
         line, entries, sweeps = self.history.plan(self.marks, failed)
         incarnations = self.history.incarnations
         is_last = [incarnation == MOST_INCARNATION for incarnation in incarnations]
         refuse(24, any(line[p] != NOW and is_last[p] for p in range(self.n)))
         replays = self.history.in_transit(line)
+        next_ones = [incarnations[p] + (line[p] != NOW) for p in range(self.n)]
         states = [self.history.stored(p, line[p]) for p in range(self.n)]
+        return Recovery(line, replays, [
+            (word, sweeps, len(entries), len(replays)),
+            *(("line", p, line[p], next_ones[p], states[p]) for p in range(self.n)),
+            *(("pass", at, choice, *message) for at, choice, message in entries),
+            *(("replay", *name) for name, _ in replays),
+        ])
+
+    def recover(self, *failed: int) -> Records:
+        """Goes on from the line that is planned for these failed processes."""
+        line, replays, records = self.planned("recovered", failed)
         self.history.restart(line)
         self.marks = Marks({(p, check) for p, check in self.marks.damaged if check <= line[p]})
         self.listed = [
@@ -184,12 +202,7 @@ class World:
         if not self.is_fifo:
             for name, to in replays:
                 self.copies.setdefault((name.sender, to), []).append(name)
-        return [
-            ("recovered", sweeps, len(entries), len(replays)),
-            *(("line", p, line[p], incarnations[p], states[p]) for p in range(self.n)),
-            *(("pass", at, choice, *message) for at, choice, message in entries),
-            *(("replay", *name) for name, _ in replays),
-        ]
+        return records
 
     # Views.
 
@@ -210,3 +223,23 @@ class World:
         self.known(*failed)
         line, entries, _ = self.history.plan(self.marks, failed)
         return list(Claim(self.history, self.marks, set(failed), line, entries).records())
+
+    def answer(self, *failed: int) -> Records:
+        """The claim that `bundle` writes, in version 3, with the starts and the replays."""
+        line, replays, [_, *told] = self.planned("planned", failed)
+        _, *claim, end = self.bundle(*failed)
+        starts: Records = [("start", p, inc, state) for _, p, _, inc, state in told[:self.n]]
+        sends = [self.history.send_of(name) for name, _ in replays]
+        again: Records = [
+            ("replay", *name, to, place, body)
+            for (name, to), (place, body) in zip(replays, sends, strict=True)
+        ]
+        return [("history", 3, self.n), *claim, *starts, *again, end]
+
+    def plan(self, *failed: int) -> Records:
+        """What a recovery would be answered where these processes failed."""
+        return self.planned("planned", failed).records
+
+    def live(self) -> Records:
+        """What a recovery would be answered where every process failed."""
+        return self.plan(*range(self.n))

@@ -1,13 +1,15 @@
 """Random check texts: right claims, claims by chains in other orders, and wrong ones.
 
 A claim is what a plan makes after a random script, or what a chain in another order makes, perhaps
-on a history that tells what could not happen. Then perhaps something in it is changed.
+on a history that tells what could not happen. Every other one has the whole answer. Then perhaps
+something in it is changed.
 """
 
+from collections.abc import Iterator
 from random import Random
 
-from .claims import Claim
-from .histories import Check, Entry, Event, Mark, Name, Recv, Send
+from .claims import Claim, Replay, Start
+from .histories import Check, Entry, Event, History, Mark, Marks, Name, Recv, Send
 from .made_scripts import DOMINOES, ROUNDS, TALK, Player
 from .made_texts import odd_first, one_in, text_of
 from .texts import NOW
@@ -15,6 +17,46 @@ from .texts import NOW
 
 def some_check_text(chance: Random) -> bytes:
     """A check text of a claim after a script."""
+    claim = some_claim(chance)
+    if one_in(chance, 2):
+        add_answer(chance, claim)
+    for _ in range(chance.choice([0, 0, 1, 1, 2])):
+        chance.choice(CHANGES)(chance, claim)
+    if one_in(chance, 8):
+        past_limits(chance, claim)
+    records, n = list(claim.records()), len(claim.history.tapes)
+    if one_in(chance, 5):
+        records[0] = ("history", chance.choice([1, 2, 2, 3]), n)
+    if one_in(chance, 80):
+        records[0] = odd_first(chance, "history", n)
+    return text_of(chance, records, one_in(chance, 3))
+
+
+def some_answer_texts(chance: Random, many: int) -> Iterator[bytes]:
+    """Check texts of whole answers after one script: right ones, and some with something changed.
+
+    A few cannot be read.
+    """
+    made = some_claim(chance)
+    for _ in range(many):
+        claim = copy_of(made)
+        add_answer(chance, claim)
+        if one_in(chance, 4):
+            chance.choice(CHANGES)(chance, claim)
+        yield text_of(chance, claim.records(), False)
+
+
+def copy_of(claim: Claim) -> Claim:
+    """A claim of its own, of the same line, for the same history."""
+    history = History(0)
+    history.tapes = [list(tape) for tape in claim.history.tapes]
+    history.incarnations = list(claim.history.incarnations)
+    marks = Marks(set(claim.marks.damaged), dict(claim.marks.bars))
+    return Claim(history, marks, set(claim.failed), list(claim.line), list(claim.entries))
+
+
+def some_claim(chance: Random) -> Claim:
+    """A claim after a script."""
     player = Player(chance, [TALK, ROUNDS, DOMINOES, DOMINOES, DOMINOES]).play()
     failed = {p for p in player.processes(0, 1, 1, 2, 3) if p < player.n}
     claim = Claim(player.world.history, player.world.marks, failed)
@@ -30,16 +72,14 @@ def some_check_text(chance: Random) -> bytes:
         claim.line, claim.entries, _ = claim.history.plan(claim.marks, failed)
     else:
         some_chain(chance, claim)
-    for _ in range(chance.choice([0, 0, 1, 1, 2])):
-        chance.choice(CHANGES)(chance, claim)
-    if one_in(chance, 8):
-        past_limits(chance, claim)
-    records = list(claim.records())
-    if one_in(chance, 5):
-        records[0] = ("history", chance.choice([1, 2, 2]), player.n)
-    if one_in(chance, 80):
-        records[0] = odd_first(chance, "history", player.n)
-    return text_of(chance, records, one_in(chance, 3))
+    return claim
+
+
+def add_answer(chance: Random, claim: Claim) -> None:
+    """Adds where processes go on and what is sent again, as it has to be or with a change."""
+    claim.starts, claim.replays = claim.right_starts(), claim.right_replays()
+    for _ in range(chance.choice([0, 0, 1, 1, 1, 2])):
+        chance.choice(ANSWER_CHANGES)(chance, claim)
 
 
 def some_chain(chance: Random, claim: Claim) -> None:
@@ -206,6 +246,71 @@ def other_event(chance: Random, claim: Claim) -> None:
         claim.history.incarnations[p] = chance.choice([0, 1, 65_535])
 
 
+def other_start(chance: Random, claim: Claim) -> None:
+    """A process that goes on in another incarnation, or from another state."""
+    p = some_process(chance, claim)
+    start = claim.starts[p]
+    other_incarnation = max(start.incarnation + chance.choice([-1, 1]), 0)
+    states = [start.state for start in claim.starts]
+    checks = [event.state for event in claim.history.tapes[p] if isinstance(event, Check)]
+    claim.starts[p] = chance.choice([
+        start._replace(incarnation=min(other_incarnation, 65_535)),
+        start._replace(state=chance.choice([None, b"", b"\xa1", *states, *checks])),
+    ])
+
+
+def drop_replay(chance: Random, claim: Claim) -> None:
+    """Takes a replay out."""
+    if claim.replays:
+        del claim.replays[chance.randrange(len(claim.replays))]
+
+
+def double_replay(chance: Random, claim: Claim) -> None:
+    """Puts a replay in once more, most often right after where it stands."""
+    if claim.replays:
+        i = chance.randrange(len(claim.replays))
+        at = i + 1 if one_in(chance, 2) else chance.randint(0, len(claim.replays))
+        claim.replays.insert(at, claim.replays[i])
+
+
+def exchange_replays(chance: Random, claim: Claim) -> None:
+    """Exchanges two replays, neighbours as often as not."""
+    if len(claim.replays) > 1:
+        i = chance.randrange(len(claim.replays) - 1)
+        j = i + 1 if one_in(chance, 2) else chance.randrange(len(claim.replays))
+        claim.replays[i], claim.replays[j] = claim.replays[j], claim.replays[i]
+
+
+def one_more_replay(chance: Random, claim: Claim) -> None:
+    """A replay of any message, most often with what its send says."""
+    name = some_name(chance, claim)
+    replay = Replay(name, some_process(chance, claim), chance.choice([0, 1, 5]), b"")
+    if claim.history.is_held(name):
+        to = dict(claim.history.sent(name.sender))[name]
+        replay = Replay(name, to, *claim.history.send_of(name))
+    before = [it for it in claim.replays if it.message < name]
+    at = len(before) if not one_in(chance, 4) else chance.randint(0, len(claim.replays))
+    claim.replays.insert(at, replay)
+
+
+def other_replay(chance: Random, claim: Claim) -> None:
+    """A replay with another name, addressee, place or body."""
+    if claim.replays:
+        i = chance.randrange(len(claim.replays))
+        replay, other = claim.replays[i], chance.choice(claim.replays)
+        place = max(replay.place + chance.choice([-1, 1]), 0)
+        claim.replays[i] = chance.choice([
+            replay._replace(message=near_name(chance, claim, replay.message)),
+            replay._replace(to=some_process(chance, claim)),
+            replay._replace(place=chance.choice([place, other.place])),
+            replay._replace(body=chance.choice([b"", b"d", other.body, replay.body[:-1]])),
+        ])
+
+
+ANSWER_CHANGES = [
+    other_start, drop_replay, double_replay, exchange_replays, one_more_replay, one_more_replay,
+    other_replay, other_replay,
+]
 CHANGES = [
     drop_entry, double_entry, exchange_entries, other_entry, other_entry, moved_line, moved_line,
     one_too_low, one_too_low, other_failed, other_marks, other_bar, other_event,
@@ -225,6 +330,20 @@ def past_limits(chance: Random, claim: Claim) -> None:
         claim.marks.damaged |= {chance.choice([(n, 0), (n, 1), (0, 0), (0, 2**32)])}
     if one_in(chance, 6):
         claim.marks.bars |= chance.choice([{n: 0}, {0: 2**32}, {0: 2**32 - 1}])
+    if claim.starts and one_in(chance, 3):
+        claim.starts[chance.randrange(len(claim.starts))] = chance.choice([
+            Start(65_536, None), Start(65_535, None), Start(0, b"s" * 4096), Start(0, b"s" * 4097),
+        ])
+    if claim.replays and one_in(chance, 3):
+        i = chance.randrange(len(claim.replays))
+        replay, message = claim.replays[i], claim.replays[i].message
+        claim.replays[i] = chance.choice([
+            replay._replace(to=n), replay._replace(place=chance.choice([2**32 - 1, 2**32])),
+            replay._replace(body=b"r" * chance.choice([64, 65])),
+            replay._replace(message=message._replace(sender=n)),
+            replay._replace(message=message._replace(incarnation=65_536)),
+            replay._replace(message=message._replace(number=2**32)),
+        ])
     if claim.entries and one_in(chance, 3):
         i = chance.randrange(len(claim.entries))
         entry, message = claim.entries[i], claim.entries[i].message

@@ -1,5 +1,6 @@
-"""Random inputs of a service: made scripts among lines that nobody should send, cut into pieces."""
+"""Random inputs of a service: made records among lines that nobody should send, cut into pieces."""
 
+from collections.abc import Sequence
 from random import Random
 
 from .made_scripts import some_script
@@ -12,9 +13,12 @@ ODD_LINES = [
     b"", b"\r", b"\r\r", b" ", b",", b"-", b"world", b"world,1,2", b"world,1,0,fifo",
     b"world,3,2,fifo", b"world,1,65,fifo", b"world,1,2,lifo", b"world,x,2,lifo", b"world,1,2,fifo",
     b"world,2,2,unordered", b"sned,0,1,61", b"history,1,1", b"fault,0,OutOfMemory", b"recover,",
-    b"recover,x", b"bundle,4294967296", b"check,0", b"check,0,6", b"check,0,,", b"rounds,0",
+    b"recover,x", b"bundle,4294967296", b"plan,x", b"answer,x", b"live,0", b"planned,1,0,0",
+    b"live,", b"check,0", b"check,0,6", b"check,0,,", b"rounds,0",
     b"deliver,0,1,-1,", b"Check,0,", b"\xef\xbb\xbfcheck,0,", b"%n%s", b"history" * 9,
 ]  # fmt: skip
+# Records that show the machine.
+SHOWING = [b"rounds", b"bundle", b"plan,0", b"live", b"answer", b"history"]
 MOST_PIECES = [1, 2, 5, 30, 200, 3_000, 70_000]
 
 
@@ -37,12 +41,14 @@ def long_line(chance: Random, record: bytes) -> bytes:
     return filler * (MOST_LINE + chance.choice([0, 0, 1])) + record
 
 
-def odd_line(chance: Random, records: list[bytes]) -> bytes:
+def odd_line(
+    chance: Random, records: Sequence[bytes], odd: Sequence[bytes] = ODD_LINES
+) -> bytes:
     """A line that most often has a fault, or is empty."""
     record = chance.choice(records)
     how = chance.choice(["odd", "odd", "bytes", "bad", "bad", "changed", "changed", "end", "cut"])
     if how == "odd":
-        return chance.choice(ODD_LINES)
+        return chance.choice(odd)
     if how == "bytes":
         return chance.randbytes(chance.randrange(40)).replace(b"\n", b"\x00")
     if how == "bad":
@@ -57,21 +63,27 @@ def odd_line(chance: Random, records: list[bytes]) -> bytes:
 
 def some_input(chance: Random) -> bytes:
     """An input: a made script, with other lines at random places, and the history at its end."""
-    script = some_script(chance).split(b"\n")
-    records = [it for it in script if it.strip(b"\r")] or [b"rounds"]
+    return mixed(chance, some_script(chance).split(b"\n"), ODD_LINES, SHOWING)
+
+
+def mixed(
+    chance: Random, made: Sequence[bytes], odd: Sequence[bytes], last: Sequence[bytes]
+) -> bytes:
+    """An input: made lines, with others at random places, and records that show all at its end."""
+    records = [it for it in made if it.strip(b"\r")] or [b"rounds"]
     often = chance.choice([0, 0.02, 0.1, 0.5])
     lines = []
-    for line in script:
+    for line in made:
         while chance.random() < often:
-            lines.append(odd_line(chance, records))
+            lines.append(odd_line(chance, records, odd))
         lines.append(line)
     if one_in(chance, 6):
-        lines.insert(0, chance.choice(ODD_LINES))
+        lines.insert(0, chance.choice(odd))
     if one_in(chance, 6):
         at = chance.randint(0, len(lines))
         many = range(chance.randint(1, 3))
         lines[at:at] = [long_line(chance, chance.choice(records)) for _ in many]
-    text = b"\n".join([*lines, b"rounds", b"bundle", b"history"])
+    text = b"\n".join([*lines, *last])
     if one_in(chance, 6):
         return text[:chance.randint(0, len(text))]
     return text + chance.choice([b"", b"\n", b"\n", b"\r\n", b"\n\n", b"\r"])
@@ -89,16 +101,16 @@ def some_pieces(chance: Random, text: bytes) -> list[bytes]:
     return pieces
 
 
-def answers_to(pieces: list[bytes]) -> tuple[list[bytes], int]:
+def answers_to(pieces: list[bytes], model: type[Service]) -> tuple[list[bytes], int]:
     """What a service answers to each piece and to the end of the input, and its status."""
-    service = Service()
+    service = model()
     answers = [service.take(piece) for piece in pieces]
     return [*answers, service.end()], service.status
 
 
-def good_records(text: bytes) -> tuple[bytes, bytes]:
+def good_records(text: bytes, model: type[Service]) -> tuple[bytes, bytes]:
     """The lines of an input that have no fault, and all answers to them without empty lines."""
-    service = Service()
+    service = model()
     good, replies = [], []
     *ended, rest = text.split(b"\n")
     answered = [(line, service.take(line + b"\n")) for line in ended]

@@ -7,21 +7,23 @@ from typing import Any
 from .histories import Item
 from .machine import World
 from .made_texts import odd_first, one_in, text_of
-from .scripts import answer, command_of
+from .scripts import OF_FAILED, answer, command_of
 from .texts import Record, earliest_version, shown
 
 # How often each kind of command comes. A relay is a message, its receipt, and a check after it.
 TALK = {
     "send": 30, "deliver": 40, "check": 14, "damage": 3, "bar": 2, "recover": 2, "begin": 4,
-    "turn": 3, "rounds": 2, "history": 1, "bundle": 1,
+    "turn": 3, "rounds": 2, "history": 1, "bundle": 1, "plan": 1, "live": 1,
+    "answer": 1,
 }
 ROUNDS = {
     "send": 16, "deliver": 56, "check": 5, "damage": 2, "bar": 1, "recover": 2, "begin": 8,
-    "turn": 6, "rounds": 3, "bundle": 1,
+    "turn": 6, "rounds": 3, "bundle": 1, "plan": 1, "answer": 1,
 }
 DOMINOES = {
     "relay": 40, "send": 18, "deliver": 22, "check": 8, "damage": 4, "bar": 2, "recover": 1,
-    "begin": 3, "turn": 2, "bundle": 1,
+    "begin": 3, "turn": 2, "bundle": 1, "plan": 2, "live": 1,
+    "answer": 2,
 }
 LENGTHS = [0, 3, 10, 30, 30, 60, 60, 90]
 PROCESSES = [1, *[2] * 6, *[3] * 6, 4, 4, 5]
@@ -122,7 +124,7 @@ class Player:
             return kind, self.process(), self.state()
         if kind in ("damage", "bar"):
             return kind, *self.known_check()
-        return kind, *(self.processes(0, 1, 1, 2, 3) if kind in ("recover", "bundle") else [])
+        return kind, *(self.processes(0, 1, 1, 2, 3) if kind in OF_FAILED else [])
 
     def relay(self) -> Record:
         """The holder sends a message, which is delivered; the command is the next one's check."""
@@ -151,8 +153,10 @@ def some_script(chance: Random) -> bytes:
     """A script."""
     player = Player(chance, [TALK, ROUNDS, ROUNDS, DOMINOES]).play()
     bundle: Record = ["bundle", *player.processes(0, 1, 2)]
+    plan: Record = ["plan", *player.processes(0, 1, 2)]
     recover: Record = ["recover", *player.processes(1, 1, 2)]
-    for end in [["rounds"], ["history"], bundle, recover, ["rounds"]]:
+    whole: Record = ["answer", *player.processes(0, 1, 2)]
+    for end in [["rounds"], ["history"], bundle, ["live"], plan, whole, recover, ["rounds"]]:
         if one_in(chance, 2):
             player.add(*end)
     version = 2 if one_in(chance, 3) else earliest_version(player.n)

@@ -16,7 +16,8 @@ ODD_FIELDS = [
      "unordered", "lifo"],
     ["6", "61", "6g", "AB", "61" * 64, "61" * 65, "61" * 4096, "61" * 4097],
     ["world", "history", "tape", "send", "recv", "deliver", "check", "mark", "begin", "turn",
-     "damage", "bar", "recover", "rounds", "bundle", "failed", "line", "pass", "end", "Send"],
+     "damage", "bar", "recover", "rounds", "bundle", "plan", "live", "answer", "failed", "line",
+     "pass", "start", "replay", "end", "Send"],
 ]
 ODD_BYTES = b",\n\r\"0x-9 ~\x7f\xff\x00now"
 ODD_TEXTS = [
@@ -43,7 +44,7 @@ def loosely(chance: Random, field: Any) -> str:
 def odd_first(chance: Random, kind: str, n: int, *mode: str) -> Record:
     """A first record that may have another version, number of processes or mode."""
     other_mode = [chance.choice([field, "lifo", ""]) for field in mode]
-    version = chance.choice([1, 1, 2, 2, 0, 3])
+    version = chance.choice([1, 1, 2, 2, 0, 3, 3, 4])
     many = chance.choice([n, n + 1, 0, 64, 65, 256, 257, 2**32])
     return kind, version, many, *other_mode
 

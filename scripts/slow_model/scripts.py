@@ -21,8 +21,9 @@ READERS: dict[str, list[Callable[[str], Any]]] = {
     "bar": [number, number],
     "rounds": [],
     "history": [],
+    "live": [],
 }
-OF_FAILED = ["recover", "bundle"]  # with any number of processes
+OF_FAILED = ["recover", "bundle", "plan", "answer"]  # with any number of processes
 METHODS = {"history": "history_text"}  # where the world's method has another name
 
 

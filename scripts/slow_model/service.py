@@ -14,6 +14,8 @@ LINE = re.compile(rb"[ !#-~]*")  # blanks to tildes but the double quote
 class Service:
     """A machine, once a good `world` has come, the line that has begun, and the status so far."""
 
+    first = "world"  # the first field of the first record
+
     def __init__(self) -> None:
         self.world: World | None = None
         self.begun = b""  # the first bytes of a line, one more than it may have at most
@@ -52,6 +54,14 @@ class Service:
             records, status = [("fault", fault.code, NAMES[fault.code])], 2
         self.status = max(self.status, status)
         return written(records) + b"\n"
+
+    def stands(self) -> bool:
+        """Whether the first record has come."""
+        return self.world is not None
+
+    def forget(self) -> None:
+        """Forgets the machine."""
+        self.world = None
 
     def record(self, fields: list[str]) -> tuple[Records, int]:
         """The records of an answer, and 1 where it is a refusal."""

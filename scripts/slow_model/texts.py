@@ -10,12 +10,14 @@ NAMES = {
     12: "NotReceived", 13: "NotOrphan", 14: "LineDiffers", 15: "NotConsistent", 16: "BadShape",
     17: "ToSelf", 18: "LinkEmpty", 19: "BadPick", 20: "RoundOpen", 21: "NothingToTurn",
     22: "WrongMode", 23: "NoMoreRounds", 24: "NoMoreIncarnations", 32: "BadRecord",
-    33: "BadNumber", 34: "NoWorld", 35: "BadVersion", 40: "BarNotLower",
+    33: "BadNumber", 34: "NoWorld", 35: "BadVersion", 40: "BarNotLower", 41: "StateDiffers",
+    42: "IncarnationDiffers", 43: "NotInTransit", 44: "ReplayDiffers", 45: "ReplayRepeated",
+    46: "ReplayMissing",
 }
 NOW = 2**100  # the choice that is later than every check
 MOST_PROCESSES, MOST_BODY, MOST_STATE, MOST_EVENTS = 256, 64, 4096, 1_000_000
 MOST_IN_FIRST_VERSION = 64  # processes of a text of version 1, and choices of a line in it
-LAST_VERSION = 2
+LAST_VERSIONS = {"world": 2, "history": 3, "reports": 2}  # by the first field of the first record
 MOST_INCARNATION, MOST_ROUND = 65_535, 65_535
 DIGITS, HEX_DIGITS = set("0123456789"), set("0123456789abcdefABCDEF")
 # The values of a record's fields: words, numbers, bytes, and None for `-`.
@@ -116,6 +118,11 @@ def hexadecimal(field: str) -> bytes:
     return bytes.fromhex(field)
 
 
+def state_or_none(field: str) -> bytes | None:
+    """The bytes of a state, or none."""
+    return None if field == "-" else hexadecimal(field)
+
+
 def fields_of(readers: Sequence[Callable[[str], Any]], fields: Sequence[str]) -> list[Any]:
     """The values of the fields of a record, one reader for each, from left to right."""
     want(len(readers) == len(fields), 32)
@@ -137,7 +144,7 @@ def first_record(fields: Sequence[str], kind: str, width: int) -> tuple[int, int
     want(fields[0] == kind, 34)
     want(len(fields) == width, 32)
     version, n = number(fields[1]), number(fields[2])
-    want(1 <= version <= LAST_VERSION, 35)
+    want(1 <= version <= LAST_VERSIONS[kind], 35)
     want(1 <= n <= most_in(version), 6)
     return version, n
 

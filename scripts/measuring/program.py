@@ -1,7 +1,6 @@
-#!/usr/bin/env python3
-"""Measures the built program on inputs that this script makes, and another program beside it.
+"""The program on made inputs, compared with another program.
 
-Usage: scripts/measure_program [--program PATH] [--other PATH] [--inputs NAME,..] [--sizes S,M]
+Usage: scripts/measure program [--program PATH] [--other PATH] [--inputs NAME,..] [--sizes S,M]
                                [--runs K] [--keep DIR] [--counts] [--texts FILE ..]
 
 The inputs are the same in every run; size S has some 10,000 records and size M some 1,000,000:
@@ -45,14 +44,13 @@ from collections.abc import Iterator, Sequence
 from concurrent.futures import ThreadPoolExecutor
 from typing import NamedTuple
 
-sys.dont_write_bytecode = True  # leaves nothing beside the scripts
-
-import command_lines
 import instructions
+import workspace
 from made_inputs import INPUTS
-from measured_runs import head, held, row, some_of, timed
 
-TOP = pathlib.Path(__file__).resolve().parent.parent
+from .runs import head, held, row, some_of, timed
+
+TOP = workspace.ROOT
 BUILT = TOP / "crates/line_cli/out/line_cli"
 SIZES = {"S": 10_000, "M": 1_000_000}
 RUNS = {"S": 15, "M": 5}
@@ -199,9 +197,8 @@ def print_counts(programs: Sequence[pathlib.Path], texts: Iterator[Input]) -> No
         row([text.name, f"{text.records():,}", *cells, "yes" if len(answers) == 1 else "no"])
 
 
-def main() -> None:
-    """Makes the inputs, and measures the programs on them."""
-    words = command_lines.parser(__doc__)
+def add_words(words: argparse.ArgumentParser) -> None:
+    """Adds the words of this job to those that are read."""
     words.add_argument(
         "--program", type=pathlib.Path, default=BUILT, help="the program, as ./recline builds it"
     )
@@ -222,7 +219,10 @@ def main() -> None:
     )
     words.add_argument("--counts", action="store_true", help="counts in place of timing")
     words.add_argument("--keep", type=pathlib.Path, help="a folder to keep the inputs in")
-    asked = words.parse_args()
+
+
+def run(asked: argparse.Namespace) -> int:
+    """Makes the inputs, and measures the programs on them."""
     programs = [path.resolve() for path in [asked.program, asked.other] if path]
     for program in programs:
         if not os.access(program, os.X_OK):
@@ -231,7 +231,4 @@ def main() -> None:
         folder = asked.keep or pathlib.Path(made)
         folder.mkdir(parents=True, exist_ok=True)
         (print_counts if asked.counts else print_times)(programs, inputs(asked, folder))
-
-
-if __name__ == "__main__":
-    main()
+    return 0

@@ -1,18 +1,17 @@
-#!/usr/bin/env python3
-"""Measures how the time and the memory of the built program grow with its input.
+"""How the time and the memory of the program grow with its input.
 
-Usage: scripts/measure_growth [--program PATH] [--families NAME,..] [--most COUNT] [--factor F]
+Usage: scripts/measure growth [--program PATH] [--families NAME,..] [--most COUNT] [--factor F]
                               [--sizes K] [--limit SECONDS] [--keep DIR] [--instructions]
-       scripts/measure_growth --recoveries [--program PATH] [--processes N] [--events COUNT]
+       scripts/measure growth --recoveries [--program PATH] [--processes N] [--events COUNT]
                               [--runs K]
-       scripts/measure_growth --plans [--most COUNT] [--factor F] [--sizes K] [--instructions]
+       scripts/measure growth --plans [--most COUNT] [--factor F] [--sizes K] [--instructions]
 
 Each family is a text with a size, and a run of `recline run` or `recline check` on it. The sizes
 of a family end at its own greatest one, or at COUNT if that is less, and each is F times the one
 before. The table has for each run the bytes of the input and of the output, the seconds of the
 processor, the greatest resident memory in MB, and the exponent of the growth of the time since the
 size before over that of the input or the output, whichever is longer: about 1 where the time is in
-proportion to what is read or written, 2 where it is in proportion to its square. Behind a run of
+proportion to what is read or written, 2 where it is in proportion to its square. After a run of
 less than a tenth of a second no exponent is told. A run that takes longer than SECONDS is stopped,
 and so is its family.
 
@@ -48,16 +47,14 @@ import sys
 import tempfile
 from typing import NamedTuple
 
-sys.dont_write_bytecode = True  # leaves nothing beside the scripts
-
 import building
-import command_lines
 import instructions
 import workspace
-from growth_families import FAMILIES, PLANS, Family, idle
-from measured_runs import row, some_of
 
-TOP = pathlib.Path(__file__).resolve().parent.parent
+from .families import FAMILIES, PLANS, Family, idle
+from .runs import row, some_of
+
+TOP = workspace.ROOT
 BUILT = TOP / "crates/line_cli/out/line_cli"
 MOST_INPUT = 67_108_864
 # What bench/plan_growth stands on.
@@ -230,9 +227,8 @@ def measure_plans(
         before = size, took
 
 
-def asked_for() -> argparse.Namespace:
-    """What the command line asks for."""
-    words = command_lines.parser(__doc__)
+def add_words(words: argparse.ArgumentParser) -> None:
+    """Adds the words of this job to those that are read."""
     add = words.add_argument
     add("--program", type=pathlib.Path, default=BUILT, help="the program, as ./recline builds it")
     names = ",".join(FAMILIES)
@@ -248,7 +244,6 @@ def asked_for() -> argparse.Namespace:
     add("--processes", type=int, default=64, help="of how many processes (64)")
     add("--events", type=int, default=1_000_000, help="how many events are before them (1000000)")
     add("--runs", type=int, default=3, help="how often they are measured (3)")
-    return words.parse_args()
 
 
 def plans(asked: argparse.Namespace, tool: instructions.Tool | None) -> None:
@@ -274,13 +269,12 @@ def counting(asked: argparse.Namespace) -> instructions.Tool | None:
     return tool
 
 
-def main() -> None:
+def run(asked: argparse.Namespace) -> int:
     """Measures the families that are asked for."""
-    asked = asked_for()
     tool = counting(asked)
     if asked.plans:
         plans(asked, tool)
-        return
+        return 0
     program = asked.program.resolve()
     if not os.access(program, os.X_OK):
         sys.exit(f"{program} is no program; ./recline builds one")
@@ -290,7 +284,7 @@ def main() -> None:
         if asked.recoveries:
             given = asked.processes, asked.events, asked.runs, asked.limit
             measure_recoveries(program, *given, folder)
-            return
+            return 0
         sizes = {
             name: sizes_of(FAMILIES[name].most, asked.most, asked.factor, asked.sizes)
             for name in asked.families
@@ -300,12 +294,9 @@ def main() -> None:
             row(["---"] + ["--:"] * 5)
             for name in asked.families:
                 count_family(program, tool, name, sizes[name], asked.limit, folder)
-            return
+            return 0
         row(["family", "size", "read", "written", "processor s", "memory MB", "exponent", "status"])
         row(["---"] + ["--:"] * 7)
         for name in asked.families:
             measure_family(program, name, sizes[name], asked.limit, folder)
-
-
-if __name__ == "__main__":
-    main()
+    return 0

@@ -1,4 +1,4 @@
-"""The families of texts of `measure_growth`: each has a size, and is read by a subcommand."""
+"""The families of texts of the job `growth`: each has a size, and is read by a subcommand."""
 
 from collections.abc import Callable, Iterator
 from typing import NamedTuple

@@ -1,7 +1,6 @@
-#!/usr/bin/env python3
-"""Measures what a recovery of nobody costs among 64 processes, in calls of the library.
+"""What a recovery of nobody costs among 64 processes, in calls of the library.
 
-Usage: scripts/measure_recoveries
+Usage: scripts/measure recoveries
 
 A world takes 65,535 recoveries, with links of either mode, in a history without events and in one
 of a million, which are checks. No text is read or written. Each is timed five times, from before
@@ -11,16 +10,13 @@ like all others, but is no crate of the repository, since it prints times. Read 
 machine with nothing else to do.
 """
 
+import argparse
 import collections
 import pathlib
 import statistics
 import subprocess
-import sys
-
-sys.dont_write_bytecode = True  # leaves nothing beside the scripts
 
 import building
-import command_lines
 import workspace
 
 STANDS_ON = "line_names line_tape line_world".split()
@@ -38,9 +34,12 @@ def timed(program: pathlib.Path) -> Times:
     return times
 
 
-def main() -> None:
-    """Does what the words ask for."""
-    command_lines.parser(__doc__).parse_args()
+def add_words(_words: argparse.ArgumentParser) -> None:
+    """Adds nothing: this job has no words of its own."""
+
+
+def run(_asked: argparse.Namespace) -> int:
+    """Builds the timing program, runs it, and prints the table."""
     with workspace.new_folder("recline-recoveries-") as folder:
         program = building.build_bench(pathlib.Path(folder), "recovery_speed", STANDS_ON, [])
         times = timed(program)
@@ -51,7 +50,4 @@ def main() -> None:
             f"| {mode} | {events:,} | {min(row):.1f} µs | {statistics.median(row):.1f} µs"
             f" | {max(row):.1f} µs |"
         )
-
-
-if __name__ == "__main__":
-    main()
+    return 0

@@ -1,7 +1,6 @@
-#!/usr/bin/env python3
-"""Measures what the proofs of each function take, from nothing, one job to a crate.
+"""What the proofs of each function take, from nothing.
 
-    scripts/measure_proofs [--at-once N] [--most K] [CRATE ..]
+    scripts/measure proofs [--at-once N] [--most K] [CRATE ..]
 
 Proves the named crates anew (all crates where none is named), and where they have tests once more
 with them, on a copy of the tree: N crates side by side, one where no number is given. What they
@@ -13,20 +12,17 @@ A check begins with what one in another copy of the tree on this machine kept of
 measure a crate that no other copy has proved.
 """
 
+import argparse
 import os
 import pathlib
 import re
 import shutil
 import subprocess
-import sys
 import tempfile
 from collections import defaultdict
 from concurrent.futures import ThreadPoolExecutor
 from typing import NamedTuple
 
-sys.dont_write_bytecode = True  # leaves nothing beside the scripts
-
-import command_lines
 import workspace
 
 TICKS = os.sysconf("SC_CLK_TCK")
@@ -97,13 +93,15 @@ def measure(crate: str, with_tests: bool, below: workspace.Below) -> Check:
         return Check(crate, with_tests, now, functions, checking.returncode)
 
 
-def main() -> int:
-    """Measures what the words ask for, and answers the status."""
-    words = command_lines.parser(__doc__)
+def add_words(words: argparse.ArgumentParser) -> None:
+    """Adds the words of this job to those that are read."""
     words.add_argument("crates", nargs="*", metavar="CRATE")
     words.add_argument("--at-once", type=int, default=1, metavar="N")
     words.add_argument("--most", type=int, default=20, metavar="K")
-    asked = words.parse_args()
+
+
+def run(asked: argparse.Namespace) -> int:
+    """Measures the crates that are asked for, and answers the status."""
     below = workspace.stands_on()
     crates = asked.crates or list(below)
     with tempfile.TemporaryDirectory() as logs:
@@ -126,7 +124,3 @@ def main() -> int:
     for name in sorted(slow, key=lambda it: -slow[it])[: asked.most]:
         print(f"| `{name}` | {slow[name]:.1f} |")
     return 1 if any(it.status for it in checks) else 0
-
-
-if __name__ == "__main__":
-    sys.exit(main())

@@ -1,7 +1,6 @@
-#!/usr/bin/env python3
-"""Measures messages a second between workers in threads: one way between two, and among eight.
+"""Messages a second between workers in threads, of two and of eight.
 
-Usage: scripts/measure_posts [--beside PROGRAM] [--rounds K]
+Usage: scripts/measure posts [--beside PROGRAM] [--rounds K]
 
 Workers send messages of 40 bytes, each message a Send on one tape and a Recv on another, at
 capacity 1 and 1,024; nothing is reported. One way: worker 0 sends, worker 1 receives. Exchange: in
@@ -21,17 +20,14 @@ PROGRAM is run after them and prints a table of its own, as a bench of other cha
 tables only from one run on a machine with nothing else to do.
 """
 
+import argparse
 import collections
 import os
 import pathlib
 import statistics
 import subprocess
-import sys
-
-sys.dont_write_bytecode = True  # leaves nothing beside the scripts
 
 import building
-import command_lines
 import workspace
 
 # What bench/post_speed stands on.
@@ -64,12 +60,14 @@ def print_table(rates: Rates) -> None:
                           f"| {max(row):.2f} |")
 
 
-def main() -> None:
-    """Does what the words ask for."""
-    words = command_lines.parser(__doc__)
+def add_words(words: argparse.ArgumentParser) -> None:
+    """Adds the words of this job to those that are read."""
     words.add_argument("--beside", type=pathlib.Path, metavar="PROGRAM")
     words.add_argument("--rounds", type=int, default=1, metavar="K")
-    asked = words.parse_args()
+
+
+def run(asked: argparse.Namespace) -> int:
+    """Times both programs in turn, and prints the tables."""
     rates: Rates = collections.defaultdict(list)
     with workspace.new_folder("recline-posts-") as room:
         folder = pathlib.Path(room)
@@ -84,7 +82,4 @@ def main() -> None:
     if asked.beside:
         print(flush=True)
         subprocess.run([asked.beside], check=True)
-
-
-if __name__ == "__main__":
-    main()
+    return 0

@@ -1,15 +1,14 @@
-#!/usr/bin/env python3
-"""Runs the gate, and tells the processor time of each crate: proof, tests, seed and edits.
+"""The processor time of the gate by crate: proof, tests, seed and edits.
 
-    scripts/measure_gate [--every SECONDS] [COMMAND WORD ..]
+    scripts/measure gate [--every SECONDS] [COMMAND WORD ..]
 
 Runs `rt ci`, or the command that is given (`./test`, say), from the top of the tree, shows what it
-writes, and looks at its processes as it goes. At the end it prints a table for docs/PROOFS.md: for
-each crate the minutes of one processor that its proof and build took, those of its tests, those of
-the seed of its edits and those of the edits; then the minutes of the clock and those of one
-processor of all. A seed is what edits begin with: one more check of the crate as it stands, from
-nothing, and a last look whether it still holds. What ran between two looks alone is told under
-'between two looks'. The command's status is its own.
+writes, and looks at its processes as it goes. At the end it prints a table: for each crate the
+minutes of one processor that its proof and build took, those of its tests, those of the seed of its
+edits and those of the edits; then the minutes of the clock and those of one processor of all. A
+seed is what edits begin with: one more check of the crate as it stands, from nothing, and a last
+look whether it still holds. What ran between two looks alone is told under 'between two looks'. The
+command's status is its own.
 """
 
 import argparse
@@ -17,14 +16,10 @@ import os
 import pathlib
 import resource
 import subprocess
-import sys
 import time
 from collections import defaultdict
 from typing import NamedTuple
 
-sys.dont_write_bytecode = True  # leaves nothing beside the scripts
-
-import command_lines
 import workspace
 
 TICKS = os.sysconf("SC_CLK_TCK")
@@ -99,14 +94,14 @@ def watch(command: list[str], every: float) -> tuple[int, float, dict[int, Look]
     """Runs a command; answers its status, the seconds of the clock, and the last look at each."""
     seen: dict[int, Look] = {}
     began = time.monotonic()
-    with subprocess.Popen(command, cwd=workspace.ROOT) as run:
-        while run.poll() is None:
-            for it in below(run.pid):
+    with subprocess.Popen(command, cwd=workspace.ROOT) as child:
+        while child.poll() is None:
+            for it in below(child.pid):
                 look = look_at(it)
                 if look:
                     seen[int(it.name)] = look
             time.sleep(every)
-    return run.returncode, time.monotonic() - began, seen
+    return child.returncode, time.monotonic() - began, seen
 
 
 def tell(seen: dict[int, Look], clock: float) -> None:
@@ -128,18 +123,16 @@ def tell(seen: dict[int, Look], clock: float) -> None:
     )
 
 
-def main() -> int:
-    """Measures, and answers the status of what was run."""
-    words = command_lines.parser(__doc__)
+def add_words(words: argparse.ArgumentParser) -> None:
+    """Adds the words of this job to those that are read."""
     words.add_argument("--every", type=float, default=0.5, metavar="SECONDS",
                        help="seconds between two looks (0.5)")
     words.add_argument("command", nargs=argparse.REMAINDER, metavar="COMMAND WORD",
                        help="what is run (rt ci)")
-    given = words.parse_args()
-    status, clock, seen = watch(given.command or ["rt", "ci"], given.every)
+
+
+def run(asked: argparse.Namespace) -> int:
+    """Measures, and answers the status of what was run."""
+    status, clock, seen = watch(asked.command or ["rt", "ci"], asked.every)
     tell(seen, clock)
     return status
-
-
-if __name__ == "__main__":
-    sys.exit(main())

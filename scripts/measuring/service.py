@@ -1,11 +1,10 @@
-#!/usr/bin/env python3
-"""Measures `recline serve`: beside `recline run`, beside an echo, and through long histories.
+"""`recline serve` compared with `recline run` and an echo, and over long histories.
 
-    scripts/measure_service [--program PATH] [--parts pipelined,trips,long] [--records N] [--runs K]
+    scripts/measure service [--program PATH] [--parts pipelined,trips,long] [--records N] [--runs K]
                             [--text FILE ..] [--trips N] [--long N] [--instructions]
 
 pipelined: `recline serve < TEXT > /dev/null` beside `recline run`, by turns, K times (7), on the
-texts of scripts/measure_program of some N records (500,000), and on each FILE: the medians of the
+texts of scripts/measure program of some N records (500,000), and on each FILE: the medians of the
 processor's time, their ratio, and the greatest memory of a run; with --instructions those of the
 whole program too, which other work on the machine does not change.
 
@@ -33,15 +32,13 @@ import time
 from collections.abc import Iterator, Sequence
 from typing import NamedTuple
 
-sys.dont_write_bytecode = True  # leaves nothing beside the scripts
-
-import command_lines
 import instructions
-import measured_runs
 import preloaded
 from conversations import Conversation
 from made_inputs import INPUTS
-from measured_runs import MB, head, memory, row, some_of
+
+from . import runs
+from .runs import MB, head, memory, row, some_of
 
 PARTS = ["pipelined", "trips", "long"]
 TEXTS = [name for name, (_, command) in INPUTS.items() if command == "run"]
@@ -97,7 +94,7 @@ def write_text(name: str, records: int, path: pathlib.Path) -> None:
 
 def seconds(program: str, command: str, path: pathlib.Path) -> float:
     """The processor's seconds of a run, which must not end by a fault."""
-    took = measured_runs.timed(program, command, path)
+    took = runs.timed(program, command, path)
     if took.status not in (0, 1):
         sys.exit(f"{program} {command} ends with status {took.status}")
     return took.processor
@@ -316,10 +313,9 @@ def table_of_long(program: str, records: int) -> None:
     print()
 
 
-def words() -> argparse.Namespace:
-    """The words of the command line."""
-    line = command_lines.parser(__doc__)
-    add = line.add_argument
+def add_words(words: argparse.ArgumentParser) -> None:
+    """Adds the words of this job to those that are read."""
+    add = words.add_argument
     add("--program", help="the program, as ./recline builds it")
     add("--parts", type=some_of(PARTS), default=PARTS, help="which tables (all)")
     add("--inputs", type=some_of(TEXTS), default=TEXTS, help="which texts (all)")
@@ -329,12 +325,10 @@ def words() -> argparse.Namespace:
     add("--instructions", action="store_true", help="count instructions of texts too")
     add("--trips", type=int, default=40_000, metavar="N", help="records one at a time (40000)")
     add("--long", type=int, default=10_000_000, metavar="N", help="records of a long history")
-    return line.parse_args()
 
 
-def main() -> None:
+def run(asked: argparse.Namespace) -> int:
     """Prints the tables that are asked for."""
-    asked = words()
     program = str(pathlib.Path(asked.program).resolve()) if asked.program else ""
     program = program or preloaded.built_program()
     with tempfile.TemporaryDirectory(prefix="recline-measures-") as made:
@@ -345,7 +339,4 @@ def main() -> None:
             table_of_trips(program, asked.trips, folder)
         if "long" in asked.parts:
             table_of_long(program, asked.long)
-
-
-if __name__ == "__main__":
-    main()
+    return 0

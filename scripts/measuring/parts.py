@@ -1,7 +1,6 @@
-#!/usr/bin/env python3
-"""Times parts of the library by themselves: the tape, the checker, and the questions about lanes.
+"""Parts of the library by themselves: tape, checker, questions about lanes.
 
-Usage: scripts/measure_parts [--runs K] [PART ..]
+Usage: scripts/measure parts [--runs K] [PART ..]
 
   tape   events of each kind that are pushed on a tape, and questions about a million receipts
   check  the checker on a certificate of some 100,000 entries, a domino through two processes
@@ -14,15 +13,12 @@ first time, but are no crates of the repository, since they print times. Read th
 with nothing else to do.
 """
 
+import argparse
 import pathlib
 import subprocess
-import sys
 from typing import NamedTuple
 
-sys.dont_write_bytecode = True  # leaves nothing beside the scripts
-
 import building
-import command_lines
 import workspace
 
 PLAIN = workspace.ROOT / "scripts" / "plain_lanes.rs"
@@ -41,7 +37,7 @@ class Part(NamedTuple):
 PARTS = {
     "tape": Part("tape_speed", ["line_names", "line_tape"], None),
     "check": Part("check_speed", ["line_names", "line_tape", "line_check"], None),
-    "lanes": Part("lane_speed", ["line_lanes"], PLAIN),
+    "lanes": Part("lane_speed", ["line_vectors"], PLAIN),
 }
 
 
@@ -58,16 +54,15 @@ def measure(part: Part, runs: int) -> None:
                 subprocess.run([program], check=True)
 
 
-def main() -> None:
-    """Does what the words ask for."""
-    words = command_lines.parser(__doc__)
+def add_words(words: argparse.ArgumentParser) -> None:
+    """Adds the words of this job to those that are read."""
     words.add_argument("--runs", type=int, default=3, metavar="K", help="how often each is run (3)")
     words.add_argument("parts", nargs="*", metavar="PART", choices=[[], *PARTS],
                        help="tape, check or lanes; all where none is named")
-    asked = words.parse_args()
+
+
+def run(asked: argparse.Namespace) -> int:
+    """Times the parts that are asked for."""
     for name in asked.parts or PARTS:
         measure(PARTS[name], asked.runs)
-
-
-if __name__ == "__main__":
-    main()
+    return 0

@@ -1,7 +1,6 @@
-#!/usr/bin/env python3
-"""Measures what the rounds that a world lists take in memory, and the time of their markers.
+"""The memory of rounds that a world lists, and the time of their markers.
 
-Usage: scripts/measure_rounds [--rounds COUNT] [--apart K]
+Usage: scripts/measure rounds [--rounds COUNT] [--apart K]
 
 A world of 64 processes over links in order takes COUNT rounds of markers (65,535): the first
 process begins each, no process stores a byte or sends a message, and each of the 4,032 markers is
@@ -20,12 +19,10 @@ import argparse
 import pathlib
 import subprocess
 import sys
+from collections.abc import Callable
 from typing import NamedTuple
 
-sys.dont_write_bytecode = True  # leaves nothing beside the scripts
-
 import building
-import command_lines
 import workspace
 
 STANDS_ON = "line_names line_tape line_world".split()
@@ -70,21 +67,27 @@ def row(rounds: int, took: Figures, more: tuple[str, str]) -> None:
     print("| " + " | ".join(cells) + " |", flush=True)
 
 
-def asked_for() -> argparse.Namespace:
-    """What the command line asks for."""
-    words = command_lines.parser(__doc__)
-    add = words.add_argument
-    add("--rounds", type=int, default=MOST_ROUNDS, metavar="COUNT", help="how many rounds (65535)")
-    add("--apart", type=int, default=1_000, metavar="K", help="rounds between recoveries (1000)")
-    asked = words.parse_args()
-    if not 0 < asked.rounds <= MOST_ROUNDS or not 0 < asked.apart <= MOST_APART:
-        words.error(f"COUNT is 1 to {MOST_ROUNDS}, and K is 1 to {MOST_APART}")
-    return asked
+def to(most: int) -> Callable[[str], int]:
+    """What reads a number from 1 to this one."""
+
+    def read(text: str) -> int:
+        if not 0 < int(text) <= most:
+            raise argparse.ArgumentTypeError(f"{text} is not from 1 to {most}")
+        return int(text)
+
+    return read
 
 
-def main() -> None:
+def add_words(words: argparse.ArgumentParser) -> None:
+    """Adds the words of this job to those that are read."""
+    words.add_argument("--rounds", type=to(MOST_ROUNDS), default=MOST_ROUNDS, metavar="COUNT",
+                       help="how many rounds (65535)")
+    words.add_argument("--apart", type=to(MOST_APART), default=1_000, metavar="K",
+                       help="rounds between recoveries (1000)")
+
+
+def run(asked: argparse.Namespace) -> int:
     """Builds the program, and runs it without a round and with those that are asked for."""
-    asked = asked_for()
     with workspace.new_folder("recline-rounds-") as folder:
         program = building.build_bench(pathlib.Path(folder), "round_memory", STANDS_ON, [])
         print("| rounds | processor s | memory MB | bytes a round | ns a step |")
@@ -95,7 +98,4 @@ def main() -> None:
         memory = (some.memory - none.memory) / asked.rounds
         seconds = (some.seconds - none.seconds) / (asked.rounds * STEPS_A_ROUND)
         row(asked.rounds, some, (f"{memory:,.0f}", f"{seconds * 1e9:.0f}"))
-
-
-if __name__ == "__main__":
-    main()
+    return 0
