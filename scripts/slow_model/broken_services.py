@@ -5,9 +5,8 @@ import mmap
 import os
 from collections.abc import Iterator
 
-from .machine import Records
 from .service import LINE, MOST_LINE, Service
-from .texts import Fault
+from .texts import Fault, Records
 
 NO_MEMORY = b"fault,0,OutOfMemory\n\n"
 EVENTS = ("check", "send", "deliver", "recv")

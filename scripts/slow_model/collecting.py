@@ -1,15 +1,14 @@
 """Reports: `recline collect`, which takes what each process did as its reports come in."""
 
-from collections.abc import Callable, Sequence
+from collections.abc import Callable
 from typing import Any
 
-from .claims import Claim
-from .histories import Check, Event, History, Mark, Marks, Name, Recv, Send
-from .machine import Records
+from .histories import Check, Event, Mark, Name, Recv, Send
+from .planning import Computation
 from .service import Service
 from .texts import (
-    MOST_BODY, MOST_EVENTS, MOST_INCARNATION, MOST_STATE, NAMES, NOW, Refusal, fields_of,
-    first_record, hexadecimal, incarnation, number, refuse, round_number, round_or_none, want,
+    MOST_BODY, MOST_EVENTS, MOST_STATE, NAMES, Records, Refusal, fields_of, first_record,
+    hexadecimal, incarnation, number, refuse, round_number, round_or_none, want,
 )
 
 STALE_REPORT = 47
@@ -29,15 +28,8 @@ OF_FAILED = ["plan", "recover", "bundle"]  # with any number of processes
 METHODS = {"history": "history_text"}  # where the method has another name
 
 
-class Collection:
-    """A history of what was reported, and marks."""
-
-    def __init__(self, n: int) -> None:
-        self.history, self.marks = History(n), Marks()
-
-    def known(self, *processes: int) -> None:
-        """Refuses a process that there is not."""
-        refuse(1, any(p not in self.history.processes() for p in processes))
+class Collection(Computation):
+    """A computation that is known by what was reported."""
 
     def add(self, p: int, event: Event) -> None:
         """Adds an event, where the tape has room."""
@@ -95,67 +87,9 @@ class Collection:
         self.add(p, Mark(sender, of_round))
         return [("marked", of_round, None)]
 
-    def damage(self, p: int, check: int) -> Records:
-        """Marks a check as damaged."""
-        self.known(p)
-        refuse(7, check == 0)
-        refuse(4, not self.history.has_choice(p, check))
-        refuse(8, (p, check) in self.marks.damaged)
-        self.marks.damaged.add((p, check))
-        return [("damaged", p, check)]
-
-    def bar(self, p: int, check: int) -> Records:
-        """Bars a process at a check."""
-        self.known(p)
-        refuse(4, not self.history.has_choice(p, check))
-        refuse(40, check >= self.marks.bars.get(p, NOW))
-        self.marks.bars[p] = check
-        return [("barred", p, check)]
-
-    # Plans.
-
-    def planned(self, kind: str, failed: Sequence[int]) -> tuple[Records, list[int]]:
-        """The records of a plan for these failed processes, and its line."""
-        self.known(*failed)
-        line, entries, sweeps = self.history.plan(self.marks, failed)
-        goes_back = [choice != NOW for choice in line]
-        own = self.history.incarnations
-        refuse(24, any(back and inc == MOST_INCARNATION for back, inc in zip(goes_back, own)))
-        replays = self.history.in_transit(line)
-        return [
-            (kind, sweeps, len(entries), len(replays)),
-            *(("line", p, choice, own[p] + goes_back[p], self.history.stored(p, choice))
-              for p, choice in enumerate(line)),
-            *(("pass", at, choice, *message) for at, choice, message in entries),
-            *(("replay", *name) for name, _ in replays),
-        ], line
-
-    def plan(self, *failed: int) -> Records:
-        """Where each process would go on from."""
-        return self.planned("planned", failed)[0]
-
-    def live(self) -> Records:
-        """The same where each process fails."""
-        return self.plan(*self.history.processes())
-
     def recover(self, *failed: int) -> Records:
         """Goes on from the line that is planned for these failed processes."""
-        records, line = self.planned("recovered", failed)
-        self.history.restart(line)
-        self.marks = Marks({(p, check) for p, check in self.marks.damaged if check <= line[p]})
-        return records
-
-    # Views.
-
-    def history_text(self) -> Records:
-        """The history."""
-        return list(self.history.records(self.history.version()))
-
-    def bundle(self, *failed: int) -> Records:
-        """The history with the claim that is planned for these failed processes."""
-        self.known(*failed)
-        line, entries, _ = self.history.plan(self.marks, failed)
-        return list(Claim(self.history, self.marks, set(failed), line, entries).records())
+        return self.restarted(failed).records
 
 
 class Collecting(Service):

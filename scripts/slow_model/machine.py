@@ -3,13 +3,9 @@
 from collections.abc import Sequence
 from typing import NamedTuple
 
-from .claims import Claim
-from .histories import Check, History, Item, Line, Mark, Marker, Marks, Name, Recv, Send
-from .texts import (
-    MOST_BODY, MOST_EVENTS, MOST_INCARNATION, MOST_ROUND, MOST_STATE, NOW, Record, refuse,
-)
-
-Records = list[Record]
+from .histories import Check, Item, Line, Mark, Marker, Name, Recv, Send
+from .planning import Computation
+from .texts import MOST_BODY, MOST_EVENTS, MOST_ROUND, MOST_STATE, Records, refuse
 
 
 class Round(NamedTuple):
@@ -19,20 +15,12 @@ class Round(NamedTuple):
     channels: list[tuple[int, int, Name]]
 
 
-class Recovery(NamedTuple):
-    """A recovery: its line, what is sent again and to whom, and the records that tell of it."""
-    line: Line
-    replays: list[tuple[Name, int]]
-    records: Records
-
-
-class World:
-    """A history, marks, the last round begun, listed rounds, and copies without order."""
+class World(Computation):
+    """A computation with links, the last round begun, listed rounds, and copies without order."""
 
     def __init__(self, n: int, mode: str) -> None:
-        self.n, self.is_fifo = n, mode == "fifo"
-        self.history = History(n)
-        self.marks = Marks()
+        super().__init__(n)
+        self.is_fifo = mode == "fifo"
         self.begun = 0
         self.listed: list[Round] = []
         self.copies: dict[tuple[int, int], list[Name]] = {}
@@ -51,10 +39,6 @@ class World:
     def has_no_room(self, p: int, events: int) -> bool:
         """Whether the tape of a process lacks room for so many events."""
         return len(self.history.tapes[p]) + events > MOST_EVENTS
-
-    def known(self, *processes: int) -> None:
-        """Refuses a process that there is not."""
-        refuse(1, any(p >= self.n for p in processes))
 
     def add_check(self, p: int, state: bytes, number: int | None) -> int:
         """Adds a check and answers its index."""
@@ -156,45 +140,9 @@ class World:
         self.list_completed()
         return [("turned", at, check, number)]
 
-    def damage(self, at: int, check: int) -> Records:
-        """Marks a check as damaged."""
-        self.known(at)
-        refuse(7, check == 0)
-        refuse(4, not self.history.has_choice(at, check))
-        refuse(8, (at, check) in self.marks.damaged)
-        self.marks.damaged.add((at, check))
-        return [("damaged", at, check)]
-
-    def bar(self, at: int, check: int) -> Records:
-        """Bars a process at a check."""
-        self.known(at)
-        refuse(4, not self.history.has_choice(at, check))
-        refuse(40, check >= self.marks.bars.get(at, NOW))
-        self.marks.bars[at] = check
-        return [("barred", at, check)]
-
-    def planned(self, word: str, failed: Sequence[int]) -> Recovery:
-        """The recovery where these processes failed, which changes nothing here."""
-        self.known(*failed)
-        line, entries, sweeps = self.history.plan(self.marks, failed)
-        incarnations = self.history.incarnations
-        is_last = [incarnation == MOST_INCARNATION for incarnation in incarnations]
-        refuse(24, any(line[p] != NOW and is_last[p] for p in range(self.n)))
-        replays = self.history.in_transit(line)
-        next_ones = [incarnations[p] + (line[p] != NOW) for p in range(self.n)]
-        states = [self.history.stored(p, line[p]) for p in range(self.n)]
-        return Recovery(line, replays, [
-            (word, sweeps, len(entries), len(replays)),
-            *(("line", p, line[p], next_ones[p], states[p]) for p in range(self.n)),
-            *(("pass", at, choice, *message) for at, choice, message in entries),
-            *(("replay", *name) for name, _ in replays),
-        ])
-
     def recover(self, *failed: int) -> Records:
         """Goes on from the line that is planned for these failed processes."""
-        line, replays, records = self.planned("recovered", failed)
-        self.history.restart(line)
-        self.marks = Marks({(p, check) for p, check in self.marks.damaged if check <= line[p]})
+        line, replays, records = self.restarted(failed)
         self.listed = [
             listed for listed in self.listed
             if all(check <= line[p] for p, check in enumerate(listed.checks))
@@ -214,16 +162,6 @@ class World:
             records += [("channel", number, p, q, *name[1:]) for p, q, name in channels]
         return records
 
-    def history_text(self) -> Records:
-        """The history."""
-        return list(self.history.records(self.history.version()))
-
-    def bundle(self, *failed: int) -> Records:
-        """The history with the claim that is planned for these failed processes."""
-        self.known(*failed)
-        line, entries, _ = self.history.plan(self.marks, failed)
-        return list(Claim(self.history, self.marks, set(failed), line, entries).records())
-
     def answer(self, *failed: int) -> Records:
         """The claim that `bundle` writes, in version 3, with the starts and the replays."""
         line, replays, [_, *told] = self.planned("planned", failed)
@@ -235,11 +173,3 @@ class World:
             for (name, to), (place, body) in zip(replays, sends, strict=True)
         ]
         return [("history", 3, self.n), *claim, *starts, *again, end]
-
-    def plan(self, *failed: int) -> Records:
-        """What a recovery would be answered where these processes failed."""
-        return self.planned("planned", failed).records
-
-    def live(self) -> Records:
-        """What a recovery would be answered where every process failed."""
-        return self.plan(*range(self.n))

@@ -10,12 +10,11 @@ from random import Random
 from typing import Any
 
 from .histories import Check, Event, Mark, Recv, Send, among
-from .machine import Records
 from .made_conversations import ODD_LINES, mixed, odd_line
 from .made_scripts import DOMINOES, ROUNDS, TALK, Player
 from .made_texts import one_in
 from .scripts import answer, command_of
-from .texts import NOW, Record, earliest_version, shown, written
+from .texts import NOW, Record, Records, earliest_version, shown, written
 
 # How often a query stands among the reports, and a report that is late.
 QUERY, LATE = 25, 30

@@ -3,10 +3,10 @@
 from collections.abc import Callable, Sequence
 from typing import Any
 
-from .machine import Records, World
+from .machine import World
 from .texts import (
-    NAMES, Answer, Fault, Refusal, fields_of, first_record, hexadecimal, number, numbered, place,
-    records_of, told, want, written,
+    NAMES, Answer, Fault, Records, Refusal, fields_of, first_record, hexadecimal, number, numbered,
+    place, records_of, told, want, written,
 )
 
 # A command by its name, and its values.

@@ -3,9 +3,9 @@
 import re
 from collections.abc import Iterator
 
-from .machine import Records, World
+from .machine import World
 from .scripts import answer, command_of, world_of
-from .texts import NAMES, Fault, want, written
+from .texts import NAMES, Fault, Records, want, written
 
 MOST_LINE = 65_536  # bytes of a line without its line feed; a carriage return is one of them
 LINE = re.compile(rb"[ !#-~]*")  # blanks to tildes but the double quote

@@ -22,6 +22,7 @@ MOST_INCARNATION, MOST_ROUND = 65_535, 65_535
 DIGITS, HEX_DIGITS = set("0123456789"), set("0123456789abcdefABCDEF")
 # The values of a record's fields: words, numbers, bytes, and None for `-`.
 Record = Sequence[Any]
+Records = list[Record]
 # What the program writes and says, and its status.
 Answer = tuple[bytes, bytes, int]
 Value = TypeVar("Value")

@@ -1,0 +1,92 @@
+"""What both kinds of computation are asked for: marks, plans, recoveries and views."""
+
+from collections.abc import Sequence
+from typing import NamedTuple
+
+from .claims import Claim
+from .histories import History, Line, Marks, Name
+from .texts import MOST_INCARNATION, NOW, Records, refuse
+
+
+class Recovery(NamedTuple):
+    """A recovery: its line, what is sent again and to whom, and the records that tell of it."""
+    line: Line
+    replays: list[tuple[Name, int]]
+    records: Records
+
+
+class Computation:
+    """A history of processes, and marks; one method for each command, which answers or refuses."""
+
+    def __init__(self, n: int) -> None:
+        self.n = n
+        self.history, self.marks = History(n), Marks()
+
+    def known(self, *processes: int) -> None:
+        """Refuses a process that there is not."""
+        refuse(1, any(p >= self.n for p in processes))
+
+    # Marks. The refusals stand in the order in which they are asked.
+
+    def damage(self, p: int, check: int) -> Records:
+        """Marks a check as damaged."""
+        self.known(p)
+        refuse(7, check == 0)
+        refuse(4, not self.history.has_choice(p, check))
+        refuse(8, (p, check) in self.marks.damaged)
+        self.marks.damaged.add((p, check))
+        return [("damaged", p, check)]
+
+    def bar(self, p: int, check: int) -> Records:
+        """Bars a process at a check."""
+        self.known(p)
+        refuse(4, not self.history.has_choice(p, check))
+        refuse(40, check >= self.marks.bars.get(p, NOW))
+        self.marks.bars[p] = check
+        return [("barred", p, check)]
+
+    # Plans.
+
+    def planned(self, word: str, failed: Sequence[int]) -> Recovery:
+        """The recovery where these processes failed, which changes nothing here."""
+        self.known(*failed)
+        line, entries, sweeps = self.history.plan(self.marks, failed)
+        goes_back = [choice != NOW for choice in line]
+        own = self.history.incarnations
+        refuse(24, any(back and inc == MOST_INCARNATION for back, inc in zip(goes_back, own)))
+        replays = self.history.in_transit(line)
+        return Recovery(line, replays, [
+            (word, sweeps, len(entries), len(replays)),
+            *(("line", p, choice, own[p] + goes_back[p], self.history.stored(p, choice))
+              for p, choice in enumerate(line)),
+            *(("pass", at, choice, *message) for at, choice, message in entries),
+            *(("replay", *name) for name, _ in replays),
+        ])
+
+    def plan(self, *failed: int) -> Records:
+        """What a recovery would be answered where these processes failed."""
+        return self.planned("planned", failed).records
+
+    def live(self) -> Records:
+        """What a recovery would be answered where every process failed."""
+        return self.plan(*range(self.n))
+
+    def restarted(self, failed: Sequence[int]) -> Recovery:
+        """The recovery where these processes failed, from whose line the history goes on."""
+        recovery = self.planned("recovered", failed)
+        line = recovery.line
+        self.history.restart(line)
+        self.marks = Marks({(p, check) for p, check in self.marks.damaged if check <= line[p]})
+        return recovery
+
+    # Views.
+
+    def history_text(self) -> Records:
+        """The history."""
+        return list(self.history.records(self.history.version()))
+
+    def bundle(self, *failed: int) -> Records:
+        """The history with the claim that is planned for these failed processes."""
+        self.known(*failed)
+        line, entries, _ = self.history.plan(self.marks, failed)
+        return list(Claim(self.history, self.marks, set(failed), line, entries).records())
