@@ -20,6 +20,7 @@ class Tool(NamedTuple):
     shown: list[str]
 
 
+NO_VARIABLES: dict[str, str] = {}
 CACHEGRIND = ["valgrind", "--tool=cachegrind", "--cachegrind-out-file=/dev/null"]
 CACHES = ["--cache-sim=yes", "--I1=32768,8,64", "--D1=32768,8,64", "--LL=1048576,16,64"]
 INSTRUCTIONS = r"I +refs: +([\d,]+)"
@@ -38,11 +39,19 @@ WITH_MISSES = {
 
 
 def all_counted(tool: Tool, words: list[str], path: pathlib.Path) -> list[int] | None:
-    """Each measure of a run on a text; none where the tool cannot tell them."""
+    """Each measure of a run on a text; none where the tool cannot tell them.
+
+    The program is called by its name in its own folder, with no variables of the environment, so
+    that its stack begins at the same place whoever asks.
+    """
+    program = pathlib.Path(shutil.which(words[0]) or words[0]).resolve()
+    counting = shutil.which(tool.words[0]) or tool.words[0]
     with open(path, "rb") as source:
         run = subprocess.run(
-            [*tool.words, *words],
+            [counting, *tool.words[1:], f"./{program.name}", *words[1:]],
             check=False,
+            cwd=program.parent,
+            env=NO_VARIABLES,
             stdin=source,
             stdout=subprocess.DEVNULL,
             stderr=subprocess.PIPE,
