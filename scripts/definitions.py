@@ -21,11 +21,10 @@ Name = tuple[str, str, str]
 # What the names of one file stand for.
 Scope = dict[str, Name]
 
-# The lower halves of the machine, of the texts and of the posts.
+# The lower halves of the machine and of the texts, and the words of the program.
 PARTS = {
-    "line_colours", "line_steps", "line_moves", "line_rings", "line_journals",
-    "line_fields", "line_claims", "line_scripts", "line_reports", "line_answers",
-    "line_words",
+    "line_colours", "line_steps", "line_moves", "line_fields", "line_claims", "line_scripts",
+    "line_reports", "line_answers", "line_words",
 }
 # Crates of tests and of examples.
 EXAMPLES = {

@@ -10,7 +10,7 @@ use Rattle.line_posts.specs.Openings.{HasSlots, IsOpening}
 use Rattle.line_posts.specs.Parcels.{parcels_sent}
 use Rattle.line_posts.specs.Posts.{PostView, IsPost, incarnation_of_post, opening_tape}
 use Rattle.line_posts.specs.declared.parcels.Parcel.TheVariants.{Message}
-use Rattle.line_rings.specs.Ends.{items_at, slots_at, slots_in}
+use Rattle.line_posts.specs.Ends.{items_at, slots_at, slots_in}
 use Rattle.line_posts.proofs.MeetLemmas.{get_below, get_last}
 use Rattle.line_posts.proofs.WholeLemmas.{incarnation_start}
 use Rattle.line_drills.specs.declared.orders.Order.{Order}

@@ -4,7 +4,7 @@ use Rattle.std.specs.Prelude.{Bool, Option, Some, None}
 use Rattle.std.specs.Prelude.{codes, replicate, slice_get, take}
 use Rattle.line_tape.specs.History.{fresh}
 use Rattle.line_tape.specs.declared.limits.TheConstants.{MOST_EVENTS, MOST_STATE}
-use Rattle.line_rings.specs.Ends.{row_at}
+use Rattle.line_posts.specs.Ends.{row_at}
 use Rattle.line_posts.specs.declared.parcels.Parcel.{Parcel}
 use Rattle.line_posts.specs.declared.parcels.Parcel.TheVariants.{Marker}
 use Rattle.line_posts.specs.declared.refusals.FleetError.{FleetError}

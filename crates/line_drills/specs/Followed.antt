@@ -5,7 +5,7 @@ use Rattle.line_names.specs.declared.messages.MsgName.{MsgName}
 use Rattle.line_tape.specs.declared.events.Event.{Event}
 use Rattle.line_tape.specs.declared.events.Event.TheVariants.{Send as SendEvent, Recv}
 use Rattle.line_tape.specs.declared.events.Event.TheVariants.{Check as CheckEvent}
-use Rattle.line_rings.specs.Ends.{slots_of}
+use Rattle.line_posts.specs.Ends.{slots_of}
 use Rattle.line_posts.specs.Generations.{IsSamePost}
 use Rattle.line_posts.specs.Openings.{HasBegun}
 use Rattle.line_posts.specs.Posts.{PostView, IsPost, incarnation_of_post, reported_count}

@@ -14,7 +14,7 @@ use Rattle.line_tape.specs.Event.{NamesBelow}
 use Rattle.line_tape.specs.History.{Process, fresh, tape_at, IsHistory}
 use Rattle.line_tape.specs.Transit.{addressee, addressees, goes_between}
 use Rattle.line_tape.proofs.LineLemmas.{tape_at-past}
-use Rattle.line_rings.specs.Ends.{row_at}
+use Rattle.line_posts.specs.Ends.{row_at}
 use Rattle.line_posts.specs.declared.parcels.Packet.{Packet}
 use Rattle.line_posts.specs.Openings.{parcels_left}
 use Rattle.line_posts.specs.Parcels.{parcels_of}

@@ -8,7 +8,7 @@ use Rattle.line_tape.specs.declared.events.Event.{Event}
 use Rattle.line_tape.specs.History.{Process, fresh, tape_at}
 use Rattle.line_tape.proofs.EventLemmas.{tape_start}
 use Rattle.line_tape.proofs.ListLemmas.{slice_get_push}
-use Rattle.line_rings.specs.Ends.{End, items_at, items_of, ring_at, row_at, slots_at, AreFresh, AreLinked, HaveSlots}
+use Rattle.line_posts.specs.Ends.{End, items_at, items_of, ring_at, row_at, slots_at, AreFresh, AreLinked, HaveSlots}
 use Rattle.line_posts.specs.declared.parcels.Packet.{Packet}
 use Rattle.line_posts.specs.declared.parcels.Parcel.{Parcel}
 use Rattle.line_posts.specs.Posts.{post_of, PostView}
@@ -24,7 +24,7 @@ use Rattle.line_posts.specs.Generations.{IsGeneration}
 use Rattle.line_posts.specs.Openings.{AreOpened}
 use Rattle.line_posts.specs.Preparations.{IsJournalAt}
 use Rattle.line_posts.specs.Replays.{AreAllReplays}
-use Rattle.line_journals.specs.Journals.{JournalView}
+use Rattle.line_posts.specs.Journals.{JournalView}
 use Rattle.line_posts.specs.Fleets.{AreAllMade, AreMade, IsMade}
 
 -- the next row, and those after it

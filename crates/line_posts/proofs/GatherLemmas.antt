@@ -11,7 +11,7 @@ use Rattle.line_tape.specs.Fit.{sent_between, received_from, item_received, item
 use Rattle.line_tape.specs.History.{Process, fresh, tape_at}
 use Rattle.line_tape.specs.Rounds.{rounds_checked}
 use Rattle.line_laws.proofs.NextLemmas.{prefix_from}
-use Rattle.line_rings.specs.Ends.{End, items_at, items_of, row_at}
+use Rattle.line_posts.specs.Ends.{End, items_at, items_of, row_at}
 use Rattle.line_posts.specs.declared.parcels.Parcel.{Parcel}
 use Rattle.line_posts.specs.Parcels.{item_of, items_of_packets, items_of_parcels, parcels_sent}
 use Rattle.line_posts.specs.Posts.{opening_tape, IsPost, PostView}

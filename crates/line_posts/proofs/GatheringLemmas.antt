@@ -14,7 +14,7 @@ use Rattle.line_tape.specs.History.{Process, process_at, tape_at, incarnation_at
 use Rattle.line_tape.proofs.EventLemmas.{tape_same, tape_other, tape_grows}
 use Rattle.line_laws.proofs.SpentLemmas.{incarnation_event}
 use Rattle.line_catalogue.specs.Agreement.{AgreesNext, IsSentAsNow}
-use Rattle.line_rings.specs.Ends.{row_at}
+use Rattle.line_posts.specs.Ends.{row_at}
 use Rattle.line_posts.specs.Posts.{opening_tape, IsPost, PostView}
 use Rattle.line_posts.specs.Receipts.{without_first}
 use Rattle.line_posts.specs.Gathered.{gathered_tape}

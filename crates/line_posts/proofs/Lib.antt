@@ -1,3 +1,8 @@
+pub mod EndLemmas
+pub mod RowLemmas
+pub mod RecordLemmas
+pub mod JournalLemmas
+pub mod ScanLemmas
 pub mod ParcelLemmas
 pub mod StepLemmas
 pub mod GatherLemmas

@@ -7,8 +7,8 @@ use Rattle.rtrb.specs.declared.AnyItems.{AnyItems}
 use Rattle.rtrb.specs.declared.consumer.Consumer.{Consumer}
 use Rattle.line_tape.specs.declared.limits.TheConstants.{MOST_EVENTS}
 use Rattle.line_tape.specs.Rounds.{has_check_of}
-use Rattle.line_rings.specs.Ends.{End, HasFilled, StillKnow, in_ends, items_at, known_at, known_rows, row_at, with_item}
-use Rattle.line_rings.proofs.EndLemmas.{knows_self, prefix_self, rows_known}
+use Rattle.line_posts.specs.Ends.{End, HasFilled, StillKnow, in_ends, items_at, known_at, known_rows, row_at, with_item}
+use Rattle.line_posts.proofs.EndLemmas.{knows_self, prefix_self, rows_known}
 use Rattle.std.proofs.lemmas.List.{append-nil}
 use Rattle.line_posts.specs.declared.parcels.Packet.{Packet}
 use Rattle.line_posts.specs.declared.parcels.Parcel.{Parcel}

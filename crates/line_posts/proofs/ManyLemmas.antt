@@ -6,7 +6,7 @@ use Rattle.std.proofs.lemmas.List.{append_assoc, append_cancel_left, append-nil,
 use Rattle.std.proofs.lemmas.List.Elements.{filter_map-append}
 use Rattle.line_tape.specs.Event.{state_of}
 use Rattle.line_tape.specs.declared.events.Event.{Event}
-use Rattle.line_rings.specs.Ends.{End}
+use Rattle.line_posts.specs.Ends.{End}
 use Rattle.line_posts.specs.Posts.{opening_tape, reported_count, IsPost, PostView}
 use Rattle.line_posts.specs.Reports.{with_items}
 

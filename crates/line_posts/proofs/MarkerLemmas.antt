@@ -7,8 +7,8 @@ use Rattle.std.proofs.lemmas.List.{append-nil, length-map}
 use Rattle.std.proofs.lemmas.Option.{same_Some}
 use Rattle.std.specs.declared.alloc.Global.{Global}
 use Rattle.rtrb.specs.declared.producer.Producer.{Producer}
-use Rattle.line_rings.specs.Ends.{End, items_at, ring_at, row_at, with_item, out_ends, producer_end}
-use Rattle.line_rings.proofs.EndLemmas.{length_item, items_same, items_other}
+use Rattle.line_posts.specs.Ends.{End, items_at, ring_at, row_at, with_item, out_ends, producer_end}
+use Rattle.line_posts.proofs.EndLemmas.{length_item, items_same, items_other}
 use Rattle.line_marker.specs.Recording.{RecordedRound}
 use Rattle.line_tape.specs.declared.events.Event.{Event}
 use Rattle.line_tape.specs.declared.events.Event.TheVariants.{Check, Mark}

@@ -8,7 +8,7 @@ use Rattle.line_tape.specs.Event.{NamesBelow, incarnations_sent}
 use Rattle.line_tape.specs.Fit.{item_received, sent_between, received_from, link, IsFitFifo, AreDistinct, MarksFollow}
 use Rattle.line_tape.specs.History.{tape_at}
 use Rattle.line_tape.specs.Rounds.{rounds_checked}
-use Rattle.line_rings.specs.Ends.{row_at}
+use Rattle.line_posts.specs.Ends.{row_at}
 use Rattle.line_posts.specs.Parcels.{items_of_packets, items_of_parcels, parcels_of, parcels_sent}
 use Rattle.line_posts.specs.Posts.{IsPost, PostView}
 use Rattle.line_posts.specs.Openings.{parcels_left, IsOpening}

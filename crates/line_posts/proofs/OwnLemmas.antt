@@ -13,7 +13,7 @@ use Rattle.line_tape.specs.Fit.{sent_between, received_from, item_received, item
 use Rattle.line_tape.specs.Fit.{AreDistinct, IsFitFifo, IsPrefix, MarksFollow}
 use Rattle.line_tape.specs.Rounds.{rounds_checked}
 use Rattle.line_tape.specs.History.{Process, fresh, process_at, tape_at, incarnation_at, IsProcess}
-use Rattle.line_rings.specs.Ends.{items_at, ring_at, row_at}
+use Rattle.line_posts.specs.Ends.{items_at, ring_at, row_at}
 use Rattle.line_posts.specs.Posts.{incarnation_of_post, opening_tape, IsPost, PostView}
 use Rattle.line_posts.specs.Extension.{Extends}
 use Rattle.line_posts.specs.Collected.{CollectorView, IsCollector}

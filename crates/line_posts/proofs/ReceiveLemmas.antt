@@ -6,10 +6,10 @@ use Rattle.rtrb.specs.declared.AnyItems.{AnyItems}
 use Rattle.rtrb.specs.declared.consumer.Consumer.{Consumer}
 use Rattle.std.proofs.lemmas.Bool.{cases_eq, eq-eqb, ne_eqb}
 use Rattle.std.proofs.lemmas.List.{append-nil, map-set, get_or-set_same, get_or-set_other, length-set, length-map}
-use Rattle.line_rings.proofs.RowLemmas.{row_seen}
+use Rattle.line_posts.proofs.RowLemmas.{row_seen}
 use Rattle.std.specs.List.{filter_map}
-use Rattle.line_rings.specs.Ends.{End, StillKnow, consumer_end, in_ends, items_at, known_at, known_rows, row_at, with_item}
-use Rattle.line_rings.proofs.EndLemmas.{knows_more, length_item, items_same, items_other, prefix_self, still_rows, taken_still}
+use Rattle.line_posts.specs.Ends.{End, StillKnow, consumer_end, in_ends, items_at, known_at, known_rows, row_at, with_item}
+use Rattle.line_posts.proofs.EndLemmas.{knows_more, length_item, items_same, items_other, prefix_self, still_rows, taken_still}
 use Rattle.line_marker.specs.Recording.{RecordedRound}
 use Rattle.line_tape.specs.declared.events.Event.{Event}
 use Rattle.line_tape.specs.declared.events.Event.TheVariants.{Recv}

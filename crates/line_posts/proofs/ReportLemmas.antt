@@ -12,8 +12,8 @@ use Rattle.line_tape.proofs.EventLemmas.{tape_same, tape_other}
 use mathlib.Core.List.{IsPrefix}
 use Rattle.line_catalogue.specs.declared.refusals.AddError.{AddError}
 use Rattle.line_catalogue.specs.declared.refusals.AddError.TheVariants.{OutOfMemory, NoSuchProcess, StateTooLong, TapeFull, NamesDisagree}
-use Rattle.line_rings.specs.Ends.{End, items_at, ring_at, row_at, with_item, AreFresh}
-use Rattle.line_rings.proofs.EndLemmas.{length_item, items_same, items_other, prefix_behind, prefix_self, prefix_then, ring_item}
+use Rattle.line_posts.specs.Ends.{End, items_at, ring_at, row_at, with_item, AreFresh}
+use Rattle.line_posts.proofs.EndLemmas.{length_item, items_same, items_other, prefix_behind, prefix_self, prefix_then, ring_item}
 use Rattle.line_tape.specs.Views.{MarksView}
 use Rattle.line_posts.specs.Collected.{collector_of, passed_count, CollectorView}
 use Rattle.line_posts.specs.Collected.{HasCollectedMore, HasLeft, HasOnlyLooked, IsCollector, IsNotAdded, ShowsNone}

@@ -5,8 +5,8 @@ use Rattle.std.proofs.lemmas.List.{length_push}
 use Rattle.line_tape.proofs.ListLemmas.{slice_get_push}
 use Rattle.std.proofs.lemmas.Option.{slice_get_within, slice_get-get_or}
 use Rattle.line_names.specs.declared.messages.MsgName.{MsgName}
-use Rattle.line_rings.specs.Ends.{ring_at}
-use Rattle.line_rings.proofs.EndLemmas.{ring_item}
+use Rattle.line_posts.specs.Ends.{ring_at}
+use Rattle.line_posts.proofs.EndLemmas.{ring_item}
 use Rattle.line_posts.specs.Receipts.{HasOnlySeen, HasReceived, HasTaken}
 use Rattle.line_posts.specs.Markers.{checked_by, marked_by}
 use Rattle.line_posts.specs.declared.parcels.Parcel.{Parcel}

@@ -1,4 +1,4 @@
--- What links hold, told off the tapes that go on, each looked at from its end back.
+-- What links hold at a restart, found on the tapes that go on, each read from its end back.
 use Rattle.std.proofs.Common.{cond, zero, suc, true, false, ◌≡◌, ◌≢◌, ◌∙◌, ◌+◌, ◌-◌, ◌<◌, ◌≤◌, ◌++◌, ◌∷◌, [], ℕ, List, Some, None, length, map, get_or, set, take, drop, replicate, refl, sym, ap, subst, inl, inr, arith}
 use Rattle.std.specs.Prelude.{slice_get, All, ◌==◌}
 use Rattle.std.proofs.lemmas.Bool.{cases_eq, cases_lt}
@@ -9,8 +9,8 @@ use Rattle.line_tape.specs.declared.events.Event.TheVariants.{Send, Recv, Check,
 use Rattle.line_tape.specs.Event.{sends, NamesBelow}
 use Rattle.line_tape.specs.Fit.{received_from}
 use Rattle.line_tape.specs.History.{Process, tape_at}
-use Rattle.line_rings.specs.Ends.{row_at}
-use Rattle.line_rings.proofs.RowLemmas.{row_seen}
+use Rattle.line_posts.specs.Ends.{row_at}
+use Rattle.line_posts.proofs.RowLemmas.{row_seen}
 use Rattle.line_posts.specs.declared.parcels.Packet.{Packet}
 use Rattle.line_posts.specs.declared.parcels.Parcel.TheVariants.{Message}
 use Rattle.line_posts.specs.Openings.{parcels_left}
@@ -73,7 +73,7 @@ pub total_none : (n : ℕ) → total (replicate n 0) ≡ 0
 total_none zero = refl
 total_none (suc n) = (let h = total_none n in omega (arith, h))
 
--- the last of them
+-- the last ones of a list
 take_none : {X : Type 0} (n : ℕ) → take {A = X} n [] ≡ []
 take_none zero = refl
 take_none (suc n) = refl
@@ -111,20 +111,20 @@ last_dropped (suc k) (x ∷ xs) =
     let e : suc (length xs) - length (drop k xs) ≡ suc (length xs - length (drop k xs)) = omega (arith, l) in
     ap (λ n. drop n (x ∷ xs)) e ∙ last_dropped k xs
 
--- what a link holds is the last of what was sent
+-- a link holds the last ones of the messages that were sent on it
 pub left_last : (history : List Process) (p q w : ℕ) (tape : List Event) → tape ≡ tape_at history p → w ≡ length (parcels_left history p q) → take_last w (parcels_sent q 0 tape) ≡ parcels_left history p q
 left_last history p q w tape et ew =
     let all = parcels_sent q 0 (tape_at history p) in
     ap (λ t. take_last w (parcels_sent q 0 t)) et ∙ (ap (λ n. take_last n all) ew ∙ last_dropped (length (received_from history q p)) all)
 
--- nothing changes of others
+-- the queues of other senders stay as they are
 pub of_none : (n p : ℕ) (packets : List (List (List Packet))) → AreSquare n packets → AreOfSender n p packets packets
 of_none n p packets s = record { square = s; same = λ q k ne. refl }
 
 pub of_then : (n p : ℕ) (a b c : List (List (List Packet))) → AreOfSender n p a b → AreOfSender n p b c → AreOfSender n p a c
 of_then n p a b c h k = record { square = k.square; same = λ q i ne. k.same q i ne ∙ h.same q i ne }
 
--- an event that sends nothing
+-- reading an event that sends nothing
 pub noted_none : (p number : ℕ) (event : Event) (counts : List ℕ) (packets : List (List (List Packet))) → AreSquare (length counts) packets → ((q : ℕ) → parcels_sent q number (event ∷ []) ≡ [])
     → IsNoted p number event counts counts packets packets 0
 noted_none p number event counts packets s none = record {
@@ -135,7 +135,7 @@ noted_none p number event counts packets s none = record {
   queued = λ q lt. sym (ap (λ t. take (get_or counts q 0) t ++ parcels_of (cell_at [] packets q p)) (none q) ∙ ap (λ t. t ++ parcels_of (cell_at [] packets q p)) (take_none (get_or counts q 0)));
 }
 
--- one that is
+-- reading one that sends a message
 noted_put : (p number to inc : ℕ) (body : List ℕ) (counts counts' : List ℕ) (packets packets' : List (List (List Packet))) → to < length counts → p < length counts → AreSquare (length counts) packets
     → 0 < get_or counts to 0 → counts' ≡ set counts to (get_or counts to 0 - 1) → packets' ≡ with_cell packets to p (record { inc = inc; number = number; body = body } ∷ cell_at [] packets to p)
     → IsNoted p number (Send to inc body) counts counts' packets packets' 1
@@ -187,7 +187,7 @@ one_sent q k (Check state None) = omega arith
 one_sent q k (Check state (Some r)) = omega arith
 one_sent q k (Mark from r) = omega arith
 
--- one event further back
+-- after one event more has been read, the one before these
 pub sorted_before : (wanted : List ℕ) (p number before : ℕ) (event : Event) (events : List Event) (counts counts' : List ℕ) (packets packets' : List (List (List Packet))) (taken : ℕ) → number ≡ before + sends (event ∷ []) → length counts ≡ length wanted
     → AreSorted wanted p number events counts packets → IsNoted p before event counts counts' packets packets' taken → AreSorted wanted p before (event ∷ events) counts' packets'
 sorted_before wanted p number before event events counts counts' packets packets' taken en long h new =
@@ -206,14 +206,14 @@ sorted_before wanted p number before event events counts counts' packets packets
     )) in
     record { still = λ q lt. (step q lt).0; queued = λ q lt. (step q lt).1 }
 
--- at the end of the tape
+-- before any event has been read
 pub sorted_start : (wanted : List ℕ) (p number : ℕ) (events : List Event) (packets : List (List (List Packet))) → events ≡ [] → ((q : ℕ) → q < length wanted → cell_at [] packets q p ≡ []) → AreSorted wanted p number events wanted packets
 sorted_start wanted p number events packets e none = rw e (record {
   still = λ q lt. omega arith;
   queued = λ q lt. ap parcels_of (none q lt) ∙ sym (drop_none (0 - get_or wanted q 0));
 })
 
--- what was met is all that was looked for, where nothing is left, and where the tape's beginning is reached
+-- the queues hold all that was looked for, once no count is left, or all of the tape has been read
 pub sorted_done : (wanted : List ℕ) (p i : ℕ) (tape : List Event) (counts : List ℕ) (packets : List (List (List Packet))) → AreSorted wanted p (sends (take i tape)) (drop i tape) counts packets → total counts ≡ 0
     → (q : ℕ) → q < length wanted → parcels_of (cell_at [] packets q p) ≡ take_last (get_or wanted q 0) (parcels_sent q 0 tape)
 sorted_done wanted p i tape counts packets h none q lt =

@@ -16,8 +16,8 @@ use Rattle.line_tape.specs.Fit.{sent_between, item_received}
 use Rattle.line_tape.specs.Rounds.{rounds_checked, checked_round, has_check_of}
 use Rattle.line_laws.proofs.NextLemmas.{rounds_push, marks_push}
 use Rattle.line_tape.proofs.ListLemmas.{slice_get_push}
-use Rattle.line_rings.specs.Ends.{End, items_at, row_at, with_item}
-use Rattle.line_rings.proofs.EndLemmas.{length_item, items_same, items_other}
+use Rattle.line_posts.specs.Ends.{End, items_at, row_at, with_item}
+use Rattle.line_posts.proofs.EndLemmas.{length_item, items_same, items_other}
 use Rattle.line_posts.specs.declared.parcels.Parcel.TheVariants.{Message}
 use Rattle.line_posts.specs.declared.parcels.Packet.{Packet}
 use Rattle.line_posts.specs.declared.parcels.Parcel.{Parcel}

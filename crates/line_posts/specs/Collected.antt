@@ -12,7 +12,7 @@ use Rattle.line_catalogue.specs.declared.refusals.AddError.{AddError}
 use Rattle.line_catalogue.specs.declared.refusals.AddError.TheVariants.{OutOfMemory, NoSuchProcess}
 use Rattle.line_catalogue.specs.declared.refusals.AddError.TheVariants.{StateTooLong, TapeFull}
 use Rattle.line_catalogue.specs.declared.refusals.AddError.TheVariants.{NamesDisagree}
-use Rattle.line_rings.specs.Ends.{End, items_at, ring_at, row_at, with_item}
+use Rattle.line_posts.specs.Ends.{End, items_at, ring_at, row_at, with_item}
 
 -- a collector: the history that its generation opened with, what it has collected, the marks of
 -- damage that it was given, its ends of the report lines, what it has seen on each of these and not
@@ -51,7 +51,7 @@ abbrev pub HasOnlyLooked : CollectorView → CollectorView → Type 0
 HasOnlyLooked old new = (new ≡ record old { seen = new.seen })
     × ((p : ℕ) → IsPrefix (row_at old.seen p) (row_at new.seen p))
 
--- it has taken one report of process p
+-- the collector has taken one report of process p
 abbrev pub HasCollected : CollectorView → ℕ → CollectorView → Type 0
 HasCollected old p new = (event : Event) × (new ≡ record old {
   processes = with_event old.processes p event;
@@ -63,18 +63,18 @@ HasCollected old p new = (event : Event) × (new ≡ record old {
 abbrev pub ShowsNone : CollectorView → ℕ → Type 0
 ShowsNone collector p = row_at collector.seen p ≡ []
 
--- nothing was taken of process p, and its line shows what it showed
+-- the collector took nothing of process p, and its line shows what it showed
 abbrev pub HasLeft : CollectorView → ℕ → CollectorView → Type 0
 HasLeft old p new = (items_at new.lines p ≡ items_at old.lines p)
     × (row_at new.seen p ≡ row_at old.seen p)
 
--- how many items passed these ends
+-- how many items passed these ends, in all
 abbrev pub passed_count : List (End Event) → ℕ
 passed_count [] = 0
 passed_count (e ∷ es) = length e.items + passed_count es
 
--- the collector has taken further reports: of each worker it has so many more events as it popped,
--- those that it had seen first, on the same lines, and nothing else changed
+-- the collector has taken further reports: to each tape came what it popped of that line, first
+-- what it had seen there, and nothing else changed
 pub record HasCollectedMore (old new : CollectorView) : Type 0 where
   pub opening : new.opening ≡ old.opening
   pub marks : new.marks ≡ old.marks
@@ -88,8 +88,8 @@ pub record HasCollectedMore (old new : CollectorView) : Type 0 where
       × (items_at new.lines p ≡ items_at old.lines p ++ more)
       × IsPrefix (row_at old.seen p) (more ++ row_at new.seen p)
 
--- the cause for which an event is not added to the tape of process p, where those before it do not
--- hold; out of memory comes last
+-- why an event is not added to the tape of process p: this cause holds, and none before it; out of
+-- memory comes last
 abbrev pub IsNotAdded : List Process → ℕ → Event → AddError → Type 0
 IsNotAdded history p event NoSuchProcess = NamesBelow (length history) event → ⊥
 IsNotAdded history p event StateTooLong = NamesBelow (length history) event × HasLongState event
@@ -102,7 +102,7 @@ IsNotAdded history p event OutOfMemory = NamesBelow (length history) event
     × (HasLongState event → ⊥) × (length (tape_at history p) ≢ MOST_EVENTS)
     × AgreesNext history p event
 
--- why the next report of process p is not taken: its line shows it
+-- the line of process p shows a report that is not taken, for this cause
 abbrev pub IsNotTaken : CollectorView → ℕ → AddError → Type 0
 IsNotTaken collector p why = (event : Event) × (rest : List Event)
     × (row_at collector.seen p ≡ event ∷ rest) × IsNotAdded collector.processes p event why

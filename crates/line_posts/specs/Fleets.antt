@@ -1,26 +1,26 @@
--- How the workers of a generation come about, one by one.
+-- The workers of a new generation, made one by one.
 use Rattle.std.specs.Prelude.{◌≡◌, ◌<◌, ℕ, List, [], ◌∷◌, length, drop, slice_get, Some}
 use Rattle.line_tape.specs.declared.events.Event.{Event}
 use Rattle.line_tape.specs.History.{Process}
-use Rattle.line_rings.specs.Ends.{End, row_at}
+use Rattle.line_posts.specs.Ends.{End, row_at}
 use Rattle.line_posts.specs.declared.parcels.Packet.{Packet}
 use Rattle.line_posts.specs.declared.parcels.Parcel.{Parcel}
 use Rattle.line_posts.specs.Openings.{parcels_left, HasBegun, IsOpening}
 use Rattle.line_posts.specs.Parcels.{parcels_of}
 use Rattle.line_posts.specs.Posts.{PostView}
 
--- what worker q keeps where a generation begins: for each process what its link to q holds
+-- what worker q keeps where a generation begins: of each process, what its link to q holds
 pub record AreReplays (history : List Process) (q : ℕ) (kept : List (List Packet)) : Type 0 where
   pub count : length kept ≡ length history
   pub each : (p : ℕ) → parcels_of (row_at kept p) ≡ parcels_left history p q
 
--- of the first n
+-- what worker q keeps where a generation begins, of the first n processes
 pub record AreReplaysBelow (n : ℕ) (history : List Process) (q : ℕ) (kept : List (List Packet))
     : Type 0 where
   pub count : length kept ≡ n
   pub each : (p : ℕ) → p < n → parcels_of (row_at kept p) ≡ parcels_left history p q
 
--- worker p, with its rows of the ends
+-- worker p where a generation begins, with row p of the ends of rings and report lines
 pub record IsMade (opening : List Process) (floor : ℕ) (outs ins : List (List (End Parcel)))
     (lines : List (List (End Event))) (p : ℕ) (post : PostView) : Type 0 where
   pub number : post.number ≡ p
@@ -31,7 +31,7 @@ pub record IsMade (opening : List Process) (floor : ℕ) (outs ins : List (List 
   pub ins_are : post.ins ≡ row_at ins p
   pub line_is : post.line ∷ [] ≡ row_at lines p
 
--- so far each is made, and the rows of the others are left
+-- the first p workers are made, and the rows of the others are left
 pub record AreMade (opening : List Process) (floor : ℕ) (outs ins : List (List (End Parcel)))
     (lines : List (List (End Event))) (p : ℕ) (left_outs left_ins : List (List (End Parcel)))
     (left_lines : List (List (End Event))) (posts : List PostView) : Type 0 where
@@ -42,7 +42,7 @@ pub record AreMade (opening : List Process) (floor : ℕ) (outs ins : List (List
   pub ins_left : left_ins ≡ drop p ins
   pub lines_left : left_lines ≡ drop p lines
 
--- all are made
+-- all workers are made, one for each process of the opening history
 pub record AreAllMade (opening : List Process) (floor : ℕ) (outs ins : List (List (End Parcel)))
     (lines : List (List (End Event))) (posts : List PostView) : Type 0 where
   pub count : length posts ≡ length opening

@@ -9,23 +9,23 @@ use Rattle.line_tape.specs.History.{Process, process_at, tape_at, incarnation_at
 use Rattle.line_tape.specs.Views.{MarksView}
 use Rattle.line_posts.specs.Posts.{PostView, opening_tape, incarnation_of_post}
 
--- each that failed is one of the first n
+-- each failed process is one of the first n
 abbrev pub AreBelow : ℕ → List Bool → Type 0
 AreBelow n failed = (q : ℕ) → IsTrue (is_member failed q) → q < n
 
--- nobody failed
+-- no process failed
 abbrev pub HasNoneFailed : List Bool → Type 0
 HasNoneFailed failed = (q : ℕ) → is_member failed q ≡ false
 
--- what a worker has reported, and its opening tape before it
+-- the opening tape of a worker, and then what it has reported
 abbrev pub reported_events : PostView → List Event
 reported_events post = opening_tape post ++ post.line.items
 
--- what is gathered of a worker: its own tape, and where it failed what it reported
+-- what is gathered of a worker: its tape or, where it failed, its opening tape and what it reported
 abbrev pub gathered_tape : Bool → PostView → List Event
 gathered_tape failed post = if failed then reported_events post else post.tape
 
--- of each worker
+-- the gathered history has of each worker its incarnation, and what is gathered of its tape
 pub record AreGathered (failed : List Bool) (posts : List PostView) (gathered : List Process)
     : Type 0 where
   pub count : length gathered ≡ length posts
@@ -44,14 +44,14 @@ pub record GatheredView : Type 0 where
   pub floor : ℕ
   pub capacity : ℕ
 
--- the gathered history is a prefix of another, tape by tape, and all of it where the process did
--- not fail
+-- each gathered tape is a prefix of the process's own tape, and all of it where the process did not
+-- fail
 pub record ArePrefixes (failed : List Bool) (gathered own : List Process) : Type 0 where
   pub count : length gathered ≡ length own
   pub incarnations : (p : ℕ) → incarnation_at gathered p ≡ incarnation_at own p
   pub begins : (p : ℕ) → IsPrefix (tape_at gathered p) (tape_at own p)
   pub whole : (p : ℕ) → is_member failed p ≡ false → tape_at gathered p ≡ tape_at own p
 
--- the other is one that links in order can lead to: the workers' own tapes
+-- the gathered tapes are prefixes of own tapes that links in order can lead to
 abbrev pub HasOwn : List Bool → List Process → Type 0
 HasOwn failed gathered = (own : List Process) × IsFitFifo own × ArePrefixes failed gathered own

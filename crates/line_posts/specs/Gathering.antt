@@ -1,4 +1,4 @@
--- How what the workers did is gathered, step by step.
+-- The steps of a gathering: rings are compared, and then events are added.
 use Rattle.std.specs.Prelude.{◌≡◌, ◌<◌, ◌≤◌, ℕ, List, ◌++◌, length, map, slice_get}
 use Rattle.std.specs.Prelude.{slice_index_or, Bool, Some}
 use Rattle.std.specs.VecDeque.{deque_items}
@@ -10,31 +10,31 @@ use Rattle.line_tape.specs.declared.events.Event.{Event}
 use Rattle.line_tape.specs.Event.{sends, Holds}
 use Rattle.line_tape.specs.Fit.{IsFitFifo}
 use Rattle.line_tape.specs.History.{Process, process_at, tape_at, incarnation_at, IsProcess, IsTape}
-use Rattle.line_rings.specs.Ends.{End, items_at, ring_at, row_at}
+use Rattle.line_posts.specs.Ends.{End, items_at, ring_at, row_at}
 use Rattle.line_posts.specs.Gathered.{gathered_tape}
 use Rattle.line_posts.specs.Posts.{PostView, IsPost, opening_tape}
 
--- what holds of each of them at any time
+-- each of these workers has what holds of a worker at any time
 abbrev pub ArePosts : List PostView → Type 0
 ArePosts posts = (p : ℕ) (post : PostView) → slice_get posts p ≡ Some post
     → IsPost post × IsTape post.tape
 
--- and each is in its place
+-- the workers have what holds of a worker at any time, and are one for each process, in order
 pub record AreAll (posts : List PostView) : Type 0 where
   pub each : (p : ℕ) (post : PostView) → slice_get posts p ≡ Some post
       → IsPost post × (post.number ≡ p) × (length post.opening ≡ length posts)
 
--- what the second popped of the first begins what the first pushed to it
+-- what the second worker popped of the first is a prefix of what the first pushed to it
 abbrev pub AreMetTwo : PostView → PostView → Type 0
 AreMetTwo from to = IsPrefix (items_at to.ins from.number) (items_at from.outs to.number)
 
--- for each two
+-- for each two workers, what one popped of the other is a prefix of what the other pushed to it
 abbrev pub AreMet : List PostView → Type 0
 AreMet posts = (i j : ℕ) (from to : PostView) → slice_get posts i ≡ Some from
     → slice_get posts j ≡ Some to → AreMetTwo from to
 
--- of each process: the gathered tape begins its own, and what it sent later than that it sent under
--- its present incarnation
+-- each gathered tape is a prefix of the process's own tape, which sends all that comes later under
+-- the present incarnation
 pub record IsBetween (gathered own : List Process) : Type 0 where
   pub incarnation : (p : ℕ) → incarnation_at gathered p ≡ incarnation_at own p
   pub begins : (p : ℕ) → IsPrefix (tape_at gathered p) (tape_at own p)
@@ -45,7 +45,7 @@ pub record IsBetween (gathered own : List Process) : Type 0 where
 abbrev pub rows_of : {X : Type 0} → List (VecDeque X Global) → List (List X)
 rows_of queues = map deque_items queues
 
--- a worker at its place, with what the collector has of it
+-- worker p, of which the history has the opening tape and then what was popped of its report line
 pub record IsReady (processes : List Process) (lines : List (End Event)) (p : ℕ) (post : PostView)
     : Type 0 where
   pub number : post.number ≡ p
@@ -54,13 +54,13 @@ pub record IsReady (processes : List Process) (lines : List (End Event)) (p : �
   pub ring : Some post.line.ring ≡ ring_at lines p
   pub seen : tape_at processes p ≡ opening_tape post ++ items_at lines p
 
--- each of them
+-- of each worker the history has the opening tape and then what was popped of its report line
 abbrev pub AreReady : List Process → List (End Event) → List PostView → Type 0
 AreReady processes lines posts = (p : ℕ) (post : PostView) → slice_get posts p ≡ Some post
     → IsReady processes lines p post
 
--- events that each process may have next, one after another: with them the history is between what
--- it is and an own one that fits
+-- `further` has events that may be added to each tape of the history: with them each tape is a
+-- prefix of the own tape, and links in order can lead to the own tapes
 pub record MayTake (history : List Process) (further : List (List Event)) (own : List Process)
     : Type 0 where
   pub count : length further ≡ length history
@@ -71,7 +71,8 @@ pub record MayTake (history : List Process) (further : List (List Event)) (own :
   pub present : (p k inc : ℕ) → sends (tape_at history p) ≤ k → Holds (tape_at own p) inc k
       → inc ≡ incarnation_at own p
 
--- the same tapes in the end, and room for all that is still to come
+-- some of the events that were to be added have been: what is left leads to the same tapes, and
+-- there is room for it
 pub record IsOnWay (old : List Process) (old_further : List (List Event)) (history : List Process)
     (rooms : List ℕ) (further : List (List Event)) : Type 0 where
   pub own : List Process
@@ -82,7 +83,8 @@ pub record IsOnWay (old : List Process) (old_further : List (List Event)) (histo
       → tape_at history p ++ row_at further p ≡ tape_at old p ++ row_at old_further p
   pub room : (p : ℕ) → length (row_at further p) ≤ slice_index_or rooms p 0
 
--- the further events of the first n workers, with room for them
+-- `further` has of each of the first n workers what is still to be gathered, and there is room for
+-- it
 pub record AreFurtherBelow (n : ℕ) (failed : List Bool) (processes : List Process) (rooms : List ℕ)
     (posts : List PostView) (further : List (List Event)) : Type 0 where
   pub count : length further ≡ n

@@ -2,7 +2,7 @@
 use Rattle.std.specs.Prelude.{◌≡◌, ◌≢◌, ℕ, List, ◌++◌, map, length, slice_get, Some}
 use Rattle.line_tape.specs.Fit.{sent_between, received_from}
 use Rattle.line_tape.specs.History.{Process}
-use Rattle.line_rings.specs.Ends.{items_at, ring_at, row_at}
+use Rattle.line_posts.specs.Ends.{items_at, ring_at, row_at}
 use Rattle.line_posts.specs.declared.parcels.Parcel.{Parcel}
 use Rattle.line_posts.specs.Collected.{CollectorView}
 use Rattle.line_posts.specs.Parcels.{items_of_packets, items_of_parcels}
@@ -24,7 +24,7 @@ HasRing from to = ring_at from.outs to.number ≡ ring_at to.ins from.number
 abbrev pub AreLinkedTwo : PostView → PostView → Type 0
 AreLinkedTwo a b = (a.opening ≡ b.opening) × HasRing a b × HasRing b a
 
--- each two of them
+-- each two of these workers opened with one history, and have a ring each way
 abbrev pub IsGeneration : List PostView → Type 0
 IsGeneration posts = (i j : ℕ) (a b : PostView) → slice_get posts i ≡ Some a
     → slice_get posts j ≡ Some b → AreLinkedTwo a b
@@ -36,7 +36,7 @@ AreLined collector posts = (i : ℕ) (post : PostView) → slice_get posts i ≡
     → (post.opening ≡ collector.opening)
     × (Some post.line.ring ≡ ring_at collector.lines post.number)
 
--- one for each process, in order
+-- the workers are one for each process, in order
 abbrev pub AreInOrder : List PostView → Type 0
 AreInOrder posts = (p : ℕ) (post : PostView) → slice_get posts p ≡ Some post
     → (post.number ≡ p) × (length post.opening ≡ length posts)
@@ -54,7 +54,7 @@ AreAccounted posts = (p q : ℕ) (from to : PostView) → slice_get posts p ≡ 
     × ((received_from (own_history posts) q p ++ items_of_packets p (row_at to.kept p))
     ++ items_of_parcels p rest ≡ sent_between (own_history posts) p q)
 
--- the worker has its number, its opening and its ends of the rings
+-- the worker has the number, the opening history and the ends that it had
 pub record IsSamePost (old new : PostView) : Type 0 where
   pub number : new.number ≡ old.number
   pub opening : new.opening ≡ old.opening
@@ -62,7 +62,7 @@ pub record IsSamePost (old new : PostView) : Type 0 where
   pub ins : (p : ℕ) → ring_at new.ins p ≡ ring_at old.ins p
   pub line : new.line.ring ≡ old.line.ring
 
--- one for one
+-- each of these workers has the number, the opening history and the ends that it had
 pub record AreSamePosts (old new : List PostView) : Type 0 where
   pub count : length new ≡ length old
   pub each : (i : ℕ) (a b : PostView) → slice_get old i ≡ Some a → slice_get new i ≡ Some b

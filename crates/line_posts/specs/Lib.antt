@@ -1,3 +1,5 @@
+pub mod Ends
+pub mod Journals
 pub mod Parcels
 pub mod Posts
 pub mod Receipts

@@ -3,16 +3,16 @@ use Rattle.std.specs.Prelude.{ℕ, zero, suc, List, [], ◌∷◌, ◌++◌, len
 use Rattle.line_marker.specs.Recording.{RecordedRound}
 use Rattle.line_tape.specs.declared.events.Event.{Event}
 use Rattle.line_tape.specs.declared.events.Event.TheVariants.{Check, Mark}
-use Rattle.line_rings.specs.Ends.{End, with_item}
-use Rattle.line_journals.specs.Journals.{rounds_by}
+use Rattle.line_posts.specs.Ends.{End, with_item}
+use Rattle.line_posts.specs.Journals.{rounds_by}
 use Rattle.line_posts.specs.declared.parcels.Parcel.TheVariants.{Marker}
 use Rattle.line_posts.specs.Posts.{PostView}
 
--- an end after one more item
+-- an end, after one more item passed it
 abbrev pub and_item : {T : Type 0} → End T → T → End T
 and_item e item = record e { items = e.items ++ item ∷ [] }
 
--- these ends but the one at `me`, each after one more item
+-- these ends, after one more item passed each but the one at `me`
 abbrev pub with_others : {T : Type 0} → List (End T) → ℕ → T → List (End T)
 with_others [] me item = []
 with_others (e ∷ es) zero item = e ∷ map (λ other. and_item other item) es
@@ -23,7 +23,7 @@ abbrev pub recorded_by : PostView → Event → List RecordedRound
 recorded_by post event = rounds_by (length post.opening) post.floor post.rounds event
 
 -- the worker after its check of a round: the state is on its tape, and the marker on its ring to
--- each other
+-- each other worker
 abbrev pub checked_by : PostView → List ℕ → ℕ → PostView
 checked_by post state round = record post {
   tape = post.tape ++ Check state (Some round) ∷ [];
@@ -31,7 +31,7 @@ checked_by post state round = record post {
   rounds = recorded_by post (Check state (Some round));
 }
 
--- the worker after the marker of a round from a process
+-- the worker after it has taken the marker of a round from a process
 abbrev pub marked_by : PostView → ℕ → ℕ → PostView
 marked_by post from round = record post {
   tape = post.tape ++ Mark from round ∷ [];

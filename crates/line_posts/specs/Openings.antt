@@ -4,13 +4,13 @@ use Rattle.line_tape.specs.declared.events.Event.{Event}
 use Rattle.line_tape.specs.Fit.{received_from}
 use Rattle.line_tape.specs.History.{Process, tape_at}
 use Rattle.line_tape.specs.Rounds.{rounds_checked}
-use Rattle.line_rings.specs.Ends.{AreFresh, End, ring_at, row_at, slots_at, slots_of}
+use Rattle.line_posts.specs.Ends.{AreFresh, End, ring_at, row_at, slots_at, slots_of}
 use Rattle.line_posts.specs.declared.parcels.Parcel.{Parcel}
 use Rattle.line_posts.specs.Generations.{AreInOrder, HasRing}
 use Rattle.line_posts.specs.Parcels.{parcels_of, parcels_sent}
 use Rattle.line_posts.specs.Posts.{PostView}
 
--- no check of any round
+-- no tape has a check of a round
 abbrev pub ArePlain : List Process → Type 0
 ArePlain history = (p : ℕ) → rounds_checked (tape_at history p) ≡ []
 
@@ -19,8 +19,8 @@ abbrev pub parcels_left : List Process → ℕ → ℕ → List Parcel
 parcels_left history p q =
     drop (length (received_from history q p)) (parcels_sent q 0 (tape_at history p))
 
--- its tape is the opening one, nothing has passed its rings and its report line, and it keeps what
--- the links to it hold
+-- the worker has only opened: its tape is the opening one, nothing has passed its rings and its
+-- report line, and it keeps what the links to it hold
 pub record IsOpening (post : PostView) : Type 0 where
   pub within : post.number < length post.opening
   pub out_count : length post.outs ≡ length post.opening
@@ -32,11 +32,11 @@ pub record IsOpening (post : PostView) : Type 0 where
   pub line : post.line.items ≡ []
   pub kept : (p : ℕ) → parcels_of (row_at post.kept p) ≡ parcels_left post.opening p post.number
 
--- rounds up to the floor are old, and no round is recorded yet
+-- rounds up to the floor are old for the worker, and it has recorded none yet
 abbrev pub HasBegun : ℕ → PostView → Type 0
 HasBegun floor post = (post.floor ≡ floor) × (post.rounds ≡ [])
 
--- its rings to the processes, and its report line, have this capacity
+-- the worker's rings to each process and its report line have this capacity
 abbrev pub HasSlots : ℕ → PostView → Type 0
 HasSlots capacity post = ((q : ℕ) → q < length post.opening → slots_at post.outs q ≡ capacity)
     × (slots_of post.line.ring ≡ capacity)

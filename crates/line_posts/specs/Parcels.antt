@@ -14,12 +14,12 @@ use Rattle.line_posts.specs.declared.parcels.Parcel.TheVariants.{Message, Marker
 abbrev pub packet_name : ℕ → Packet → MsgName
 packet_name p packet = record { from = p; inc = packet.inc; number = packet.number }
 
--- what is sent and received by it: the message's name, or the marker
+-- a parcel from process p as an item of a link: the message's name, or the marker
 abbrev pub item_of : ℕ → Parcel → Item
 item_of p (Message packet) = item_message (packet_name p packet)
 item_of p (Marker round) = item_marker round
 
--- what is sent and received by these parcels from process p
+-- these parcels from process p, as items of a link
 abbrev pub items_of_parcels : ℕ → List Parcel → List Item
 items_of_parcels p parcels = map (item_of p) parcels
 
@@ -27,12 +27,12 @@ items_of_parcels p parcels = map (item_of p) parcels
 abbrev pub parcels_of : List Packet → List Parcel
 parcels_of packets = map (λ packet. Message packet) packets
 
--- what is sent and received by these packets from process p
+-- these packets from process p, as items of a link
 abbrev pub items_of_packets : ℕ → List Packet → List Item
 items_of_packets p packets = items_of_parcels p (parcels_of packets)
 
--- what a process sends to q by these events, its first send having this number: its messages to q,
--- and a marker for each check of a round
+-- what these events of a process send to q: the messages to q, and a marker for each check of a
+-- round; `number` is that of the first message that the events send
 abbrev pub parcels_sent : ℕ → ℕ → List Event → List Parcel
 parcels_sent q number [] = []
 parcels_sent q number (Send to inc body ∷ rest) =

@@ -11,7 +11,7 @@ use Rattle.line_tape.specs.Event.{sends, Holds, NamesBelow}
 use Rattle.line_tape.specs.Fit.{sent_between, item_received, AreDistinct, MarksFollow}
 use Rattle.line_tape.specs.History.{Process, tape_at, incarnation_at}
 use Rattle.line_tape.specs.Rounds.{rounds_checked}
-use Rattle.line_rings.specs.Ends.{End, with_item, items_at, row_at}
+use Rattle.line_posts.specs.Ends.{End, with_item, items_at, row_at}
 use Rattle.line_posts.specs.declared.parcels.Packet.{Packet}
 use Rattle.line_posts.specs.declared.parcels.Parcel.{Parcel}
 use Rattle.line_posts.specs.declared.parcels.Parcel.TheVariants.{Message}
@@ -33,6 +33,7 @@ pub record PostView : Type 0 where
   pub floor : ℕ
   pub rounds : List RecordedRound
 
+-- the worker with these parts
 abbrev pub post_of : ℕ → List Process → List Event → List (List Packet) → List (End Parcel)
     → List (End Parcel) → List (List Parcel) → End Event → ℕ → List RecordedRound → PostView
 post_of number opening tape kept outs ins seen line floor rounds = record {
@@ -48,11 +49,11 @@ post_of number opening tape kept outs ins seen line floor rounds = record {
   rounds = rounds;
 }
 
--- what its tape began with
+-- the tape that the worker opened with
 abbrev pub opening_tape : PostView → List Event
 opening_tape post = tape_at post.opening post.number
 
--- the incarnation under which it sends
+-- the incarnation under which the worker sends
 abbrev pub incarnation_of_post : PostView → ℕ
 incarnation_of_post post = incarnation_at post.opening post.number
 
@@ -81,12 +82,12 @@ pub record IsPost (post : PostView) : Type 0 where
   pub rounds : AreDistinct (rounds_checked post.tape)
   pub marks : MarksFollow post.tape
 
--- the name of its next message
+-- the name of the worker's next message
 abbrev pub next_message_name : PostView → MsgName
 next_message_name post =
     record { from = post.number; inc = incarnation_of_post post; number = sends post.tape }
 
--- its next message to another process, with this body
+-- the worker's next message, with this body, as a ring carries it
 abbrev pub next_packet : PostView → List ℕ → Packet
 next_packet post body =
     record { inc = incarnation_of_post post; number = sends post.tape; body = body }
@@ -102,6 +103,6 @@ sent_by post to body = record post {
 abbrev pub checked_alone : PostView → List ℕ → PostView
 checked_alone post state = record post { tape = post.tape ++ Check state None ∷ [] }
 
--- how many events of its tape are in the opening or were reported
+-- how many events of the worker's tape were there at the opening or have been reported
 abbrev pub reported_count : PostView → ℕ
 reported_count post = length (opening_tape post) + length post.line.items

@@ -1,8 +1,8 @@
--- What the workers of a generation take memory for, before they open.
+-- All that the workers of a new generation take memory for.
 use Rattle.std.specs.Prelude.{◌≡◌, ◌≤◌, ℕ, List, [], length, slice_get, Some, vec_capacity}
-use Rattle.line_journals.specs.Journals.{JournalView}
+use Rattle.line_posts.specs.Journals.{JournalView}
 use Rattle.line_tape.specs.History.{Process, tape_at}
-use Rattle.line_rings.specs.Ends.{in_rows, out_rows, AreLinked, HaveSlots}
+use Rattle.line_posts.specs.Ends.{in_rows, out_rows, AreLinked, HaveSlots}
 use Rattle.line_posts.specs.declared.fleets.Prepared.{Prepared}
 use Rattle.line_posts.specs.Replays.{packets_of, AreAllReplays}
 
@@ -14,15 +14,15 @@ pub record IsJournalAt (opening : List Process) (floor p : ℕ) (journal : Journ
   pub tape_is : journal.tape ≡ tape_at opening p
   pub rounds_are : journal.rounds ≡ []
 
--- of each worker
+-- the journals of all workers at the opening; rounds up to the floor are old
 pub record AreJournals (opening : List Process) (floor : ℕ) (journals : List JournalView) : Type 0
   where
     pub count : length journals ≡ length opening
     pub each : (p : ℕ) (journal : JournalView) → slice_get journals p ≡ Some journal
         → IsJournalAt opening floor p journal
 
--- for each worker its journal and what it keeps, a ring to each and a report line, all of this
--- capacity; and room for the workers
+-- each worker has its journal, what it keeps, a ring to each worker and a report line, all of this
+-- capacity; and there is room for the workers
 pub record IsPrepared (opening : List Process) (floor capacity : ℕ) (prepared : Prepared) : Type 0
   where
     pub journals : AreJournals opening floor prepared.journals.items

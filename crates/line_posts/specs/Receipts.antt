@@ -5,7 +5,7 @@ use mathlib.Core.List.{IsPrefix}
 use Rattle.line_names.specs.declared.messages.MsgName.{MsgName}
 use Rattle.line_tape.specs.declared.events.Event.TheVariants.{Recv}
 use Rattle.line_tape.specs.Rounds.{has_check_of}
-use Rattle.line_rings.specs.Ends.{items_at, row_at, with_item}
+use Rattle.line_posts.specs.Ends.{items_at, row_at, with_item}
 use Rattle.line_posts.specs.declared.parcels.Packet.{Packet}
 use Rattle.line_posts.specs.declared.parcels.Parcel.{Parcel}
 use Rattle.line_posts.specs.declared.parcels.Parcel.TheVariants.{Message, Marker}
@@ -14,15 +14,15 @@ use Rattle.line_posts.specs.declared.receiving.Received.TheVariants.{Message as 
 use Rattle.line_posts.specs.Markers.{recorded_by, checked_by, marked_by}
 use Rattle.line_posts.specs.Posts.{PostView}
 
--- the row at p without its first
+-- the rows, without the first item of the row at p
 abbrev pub without_first : {X : Type 0} → List (List X) → ℕ → List (List X)
 without_first rows p = slice_set rows p (drop 1 (row_at rows p))
 
--- the packet of that name with this body
+-- the packet of the message of this name, with this body
 abbrev pub packet_named : MsgName → List ℕ → Packet
 packet_named name body = record { inc = name.inc; number = name.number; body = body }
 
--- what it had seen on its rings comes first of what it pops, and else is seen still
+-- what the worker had seen on its rings is the first that it popped, and is still seen otherwise
 abbrev pub StillSees : PostView → PostView → Type 0
 StillSees old new = (p : ℕ) → (popped : List Parcel)
     × (items_at new.ins p ≡ items_at old.ins p ++ popped)
@@ -32,17 +32,17 @@ StillSees old new = (p : ℕ) → (popped : List Parcel)
 abbrev pub HasOnlySeen : PostView → PostView → Type 0
 HasOnlySeen old new = new ≡ record old { seen = new.seen }
 
--- it took the first of the replays that it kept of process p
+-- the worker took the first of the replays that it kept of process p
 abbrev pub IsReplay : PostView → ℕ → Packet → PostView → Type 0
 IsReplay old p packet new = (row_at old.kept p ≡ packet ∷ row_at new.kept p)
     × (new.kept ≡ without_first old.kept p) × (new.ins ≡ old.ins)
 
--- it kept no replay of process p, and took the next of the ring
+-- the worker kept no replay of process p, and took the next item of the ring from there
 abbrev pub IsNext : PostView → ℕ → Packet → PostView → Type 0
 IsNext old p packet new = (row_at old.kept p ≡ []) × (new.kept ≡ old.kept)
     × (new.ins ≡ with_item old.ins p (Message packet))
 
--- the worker has taken that message of its sender, and its tape says so
+-- the worker has received this message, and its tape and its record of rounds have it
 abbrev pub HasTaken : PostView → MsgName → List ℕ → PostView → Type 0
 HasTaken old name body new = (new ≡ record old {
   tape = old.tape ++ Recv name ∷ [];
@@ -53,22 +53,23 @@ HasTaken old name body new = (new ≡ record old {
 }) × (IsReplay old name.from (packet_named name body) new
     ⊎ IsNext old name.from (packet_named name body) new)
 
+-- the parcel is a message
 abbrev pub IsMessageParcel : Parcel → Type 0
 IsMessageParcel (Message packet) = Unit {0}
 IsMessageParcel (Marker round) = ⊥
 
--- the first of them is a message
+-- the first of these parcels is a message
 abbrev pub BeginsWithMessage : List Parcel → Type 0
 BeginsWithMessage [] = ⊥
 BeginsWithMessage (parcel ∷ rest) = IsMessageParcel parcel
 
--- the first of them is the marker of that round
+-- the first of these parcels is the marker of this round
 abbrev pub BeginsWithMarker : ℕ → List Parcel → Type 0
 BeginsWithMarker round [] = ⊥
 BeginsWithMarker round (parcel ∷ rest) = parcel ≡ Marker round
 
 -- the worker has taken the marker of a round from a process of which it keeps no replay; where its
--- tape had no check of the round, that came first, with this state
+-- tape had no check of the round, it took that check first, with this state
 pub record HasMarked (old : PostView) (from : ℕ) (state : List ℕ) (round : ℕ) (forced : Bool)
     (new : PostView) : Type 0 where
   pub bare : row_at old.kept from ≡ []

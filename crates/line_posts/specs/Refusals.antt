@@ -4,8 +4,8 @@ use Rattle.std.specs.Prelude.{if◌then◌else◌}
 use Rattle.line_marker.specs.Recording.{latest}
 use Rattle.line_tape.specs.declared.limits.TheConstants.{LAST_ROUND, MOST_EVENTS, MOST_STATE}
 use Rattle.line_tape.specs.Rounds.{has_check_of}
-use Rattle.line_rings.specs.Ends.{row_at, HasFilled, IsFilled}
-use Rattle.line_journals.specs.Journals.{IsOpen}
+use Rattle.line_posts.specs.Ends.{row_at, HasFilled, IsFilled}
+use Rattle.line_posts.specs.Journals.{IsOpen}
 use Rattle.line_posts.specs.declared.refusals.SendWhy.{SendWhy}
 use Rattle.line_posts.specs.declared.refusals.SendWhy.TheVariants.{OutOfMemory as send_memory}
 use Rattle.line_posts.specs.declared.refusals.SendWhy.TheVariants.{NoSuchProcess as send_process}
@@ -35,7 +35,7 @@ pub record MaySend (post : PostView) (to : ℕ) : Type 0 where
   pub other : to ≢ post.number
   pub few : length post.tape < MOST_EVENTS
 
--- the cause of a refusal, where those before it do not hold
+-- why a message is not sent: this cause holds, and none before it but perhaps a full ring
 abbrev pub IsNotSent : PostView → ℕ → SendWhy → Type 0
 IsNotSent post to send_process = length post.opening ≤ to
 IsNotSent post to send_self = (to < length post.opening) × (to ≡ post.number)
@@ -44,24 +44,25 @@ IsNotSent post to send_full =
 IsNotSent post to send_ring = MaySend post to × IsFilled post.outs to
 IsNotSent post to send_memory = MaySend post to
 
--- it is another process, and the state is short
+-- the worker asks another process, and the state is short
 pub record MayReceive (post : PostView) (from : ℕ) (state : List ℕ) : Type 0 where
   pub process : from < length post.opening
   pub other : from ≢ post.number
   pub short : length state ≤ MOST_STATE
 
--- the first of the replays that it keeps of the process, or where it keeps none of what its ring
--- shows
+-- what comes next from a process: the first of the replays that the worker keeps of it or, where it
+-- keeps none, the first item that the ring shows
 abbrev pub ComesNext : PostView → List Parcel → ℕ → Parcel → Type 0
 ComesNext post shown from next = (rest : List Parcel)
     × (parcels_of (row_at post.kept from) ++ shown ≡ next ∷ rest)
 
--- how many events it adds: a marker that forces a check adds two
+-- how many events a parcel adds to the tape: two where it is a marker that forces a check, else one
 abbrev pub event_count : PostView → Parcel → ℕ
 event_count post (Message packet) = 1
 event_count post (Marker round) = if has_check_of round post.tape then 1 else 2
 
--- the cause of a refusal, where those before it do not hold and the ring shows these items
+-- why nothing is received where the ring shows these items: this cause holds, and none before it
+-- but perhaps a full ring
 abbrev pub IsNotReceived : PostView → List Parcel → ℕ → List ℕ → ReceiveWhy → Type 0
 IsNotReceived post shown from state NoSuchProcess = length post.opening ≤ from
 IsNotReceived post shown from state ToSelf = (from < length post.opening) × (from ≡ post.number)
@@ -91,7 +92,7 @@ pub record MayBegin (post : PostView) (state : List ℕ) : Type 0 where
   pub closed : HasOpenRound post → ⊥
   pub further : latest post.floor post.rounds < LAST_ROUND
 
--- the cause of a refusal, where those before it do not hold
+-- why a round is not begun: this cause holds, and none before it but perhaps a full ring
 abbrev pub IsNotBegun : PostView → List ℕ → BeginWhy → Type 0
 IsNotBegun post state NotLead = post.number ≢ 0
 IsNotBegun post state StateTooLong = (post.number ≡ 0) × (MOST_STATE < length state)

@@ -1,4 +1,4 @@
--- How what links hold is told off the tapes that go on, each looked at from its end back.
+-- What links hold at a restart, found on the tapes that go on, each read from its end back.
 use Rattle.std.specs.Prelude.{◌≡◌, ◌≢◌, ◌<◌, ◌≤◌, ◌+◌, ◌-◌, ◌++◌, ℕ, List, [], ◌∷◌, length, take}
 use Rattle.std.specs.Prelude.{drop, map, filter, slice_index_or, slice_set}
 use Rattle.std.specs.declared.alloc.Global.{Global}
@@ -8,7 +8,7 @@ use Rattle.line_names.specs.declared.messages.MsgName.{MsgName}
 use Rattle.line_tape.specs.declared.events.Event.{Event}
 use Rattle.line_tape.specs.History.{Process}
 use Rattle.line_tape.specs.Transit.{goes_between}
-use Rattle.line_rings.specs.Ends.{row_at}
+use Rattle.line_posts.specs.Ends.{row_at}
 use Rattle.line_posts.specs.declared.parcels.Packet.{Packet}
 use Rattle.line_posts.specs.Fleets.{AreReplays}
 use Rattle.line_posts.specs.Gathering.{rows_of}
@@ -44,7 +44,8 @@ counts_of rows = map (λ v. v.items) rows
 abbrev pub packets_of : List (Vec (VecDeque Packet Global) Global) → List (List (List Packet))
 packets_of rows = map (λ v. rows_of v.items) rows
 
--- how many of these messages each process sent to each, by sender, and how many in all
+-- `counts` says how many of these messages each process sent to each, by sender and then receiver,
+-- and `sums` how many each sent in all
 pub record AreCounted (history : List Process) (messages : List MsgName) (counts : List (List ℕ))
     (sums : List ℕ) : Type 0 where
   pub square : AreSquare (length history) counts
@@ -54,9 +55,10 @@ pub record AreCounted (history : List Process) (messages : List MsgName) (counts
   pub sum : (p : ℕ) → p < length history → slice_index_or sums p 0 ≡ total (row_at counts p)
   pub few : (p : ℕ) → slice_index_or sums p 0 ≤ length messages
 
--- of process p so many messages to each process are looked for, the last ones. Where these events
--- at the end of its tape were looked at, the first send among them having this number: how many are
--- not met yet, and those that were
+-- `events`, the last ones on the tape of process p, have been read for the last messages that p
+-- sent to each process, as many to each as `wanted` says. `counts` says how many of these are still
+-- to be found, and the queues hold those that were found. `number` is that of the first message
+-- that `events` send
 pub record AreSorted (wanted : List ℕ) (p number : ℕ) (events : List Event) (counts : List ℕ)
     (packets : List (List (List Packet))) : Type 0 where
   pub still : (q : ℕ) → q < length wanted → slice_index_or counts q 0
@@ -64,13 +66,14 @@ pub record AreSorted (wanted : List ℕ) (p number : ℕ) (events : List Event) 
   pub queued : (q : ℕ) → q < length wanted → parcels_of (cell_at [] packets q p)
       ≡ take_last (slice_index_or wanted q 0) (parcels_sent q number events)
 
--- the packets of n processes, where nothing but those of sender p changed
+-- in the queues of n processes, nothing has changed but the packets from sender p
 pub record AreOfSender (n p : ℕ) (packets new_packets : List (List (List Packet))) : Type 0 where
   pub square : AreSquare n new_packets
   pub same : (q k : ℕ) → k ≢ p → cell_at [] new_packets q k ≡ cell_at [] packets q k
 
--- the event of process p, whose message has this number where it is a send, puts a packet before
--- the others, where one is looked for; so many were taken off the counts, one or none
+-- an event of process p has been read. Where it sends a message, with the number `number`, and the
+-- count of its receiver is not zero, that count is one less, and the message is put first in its
+-- queue. `taken` is one then, and else zero
 pub record IsNoted (p number : ℕ) (event : Event) (counts new_counts : List ℕ)
     (packets new_packets : List (List (List Packet))) (taken : ℕ) : Type 0 where
   pub sender : AreOfSender (length counts) p packets new_packets
@@ -82,7 +85,7 @@ pub record IsNoted (p number : ℕ) (event : Event) (counts new_counts : List �
       ≡ take (slice_index_or counts q 0) (parcels_sent q number (event ∷ []))
       ++ parcels_of (cell_at [] packets q p)
 
--- what each worker keeps where a generation begins
+-- what each worker keeps to receive again, where a generation begins
 pub record AreAllReplays (history : List Process) (kept : List (List (List Packet))) : Type 0 where
   pub count : length kept ≡ length history
   pub each : (q : ℕ) → q < length history → AreReplays history q (row_at kept q)

@@ -1,16 +1,16 @@
-//! Workers that are back together: the two ends of each ring are compared.
+//! Workers that are back from their threads: the two ends of each ring are compared.
 ghost use Rattle.std.specs.Prelude.{◌≡◌, ◌↔◌, ℕ, IsTrue, slice_get, Some, vec_capacity};
 ghost use Rattle.line_tape.specs.Fit.{IsFitFifo};
-ghost use Rattle.line_rings.specs.Ends.{ring_at};
+ghost use Rattle.line_posts.specs.Ends.{ring_at};
 ghost use Rattle.line_posts.specs.Posts.{PostView};
 ghost use Rattle.line_posts.specs.Generations.{own_history, AreAccounted, AreInOrder, AreLinkedTwo};
 ghost use Rattle.line_posts.specs.Generations.{IsGeneration};
 ghost use Rattle.line_posts.specs.Gathering.{ArePosts, AreMet, AreMetTwo};
 
+use crate::ends::meet;
 use crate::posts::Post;
-use line_rings::meet;
 
-/// What lies on the ring from one worker to another is known from here on.
+/// Compares the two ends of the ring from one worker to another.
 fn meet_two(from: &mut Post, to: &mut Post)
     requires opened { from.old.opening ≡ to.old.opening }
     requires linked { ring_at from.old.outs to.old.number ≡ ring_at to.old.ins from.old.number }
@@ -23,7 +23,7 @@ fn meet_two(from: &mut Post, to: &mut Post)
     let _ = meet(&mut from.outs, q, &mut to.ins, p);
 }
 
-/// What lies on a worker's ring to itself.
+/// Compares the two ends of a worker's ring to itself.
 fn meet_self(post: &mut Post)
     requires { ring_at post.old.outs post.old.number ≡ ring_at post.old.ins post.old.number }
     ensures same { post.new ≡ post.old }
@@ -33,7 +33,7 @@ fn meet_self(post: &mut Post)
     let _ = meet(&mut post.outs, p, &mut post.ins, p);
 }
 
-/// What lies on the rings between one worker and each of the others.
+/// Compares the two ends of each ring between one worker and each of the others.
 fn meet_each(one: &mut Post, others: &mut Vec<Post>)
     requires linked { (j : ℕ) (other : PostView) → slice_get others.old.items j ≡ Some other
         → AreLinkedTwo one.old other }
@@ -50,7 +50,7 @@ fn meet_each(one: &mut Post, others: &mut Vec<Post>)
     }
 }
 
-/// What lies on each ring.
+/// Compares the two ends of each ring.
 fn meet_all(posts: &mut Vec<Post>)
     requires { IsGeneration posts.old.items }
     ensures same { posts.new.items ≡ posts.old.items }
@@ -66,8 +66,9 @@ fn meet_all(posts: &mut Vec<Post>)
     posts.push_reserved(last);
 }
 
-/// Whether the workers are one for each process, in order; then what each received of each other,
-/// and what it keeps and what is on the way, is what the other sent.
+/// Whether the workers are one for each process, in order. If they are, it compares the two ends of
+/// each ring: what a worker received of another, then what it still keeps of it, then what is still
+/// on the ring, is what the other sent.
 pub(crate) fn account(posts: &mut Vec<Post>) -> bool
     requires { IsGeneration posts.old.items }
     ensures same { posts.new.items ≡ posts.old.items }

@@ -6,26 +6,26 @@ ghost use Rattle.line_tape.specs.History.{Process};
 ghost use Rattle.line_tape.specs.Line.{IsConsistent};
 ghost use Rattle.line_tape.specs.Survival.{IsLatest};
 ghost use Rattle.line_tape.specs.Transit.{in_transit};
-ghost use Rattle.line_rings.specs.Ends.{in_ends, items_at, known_rows, AreFresh};
+ghost use Rattle.line_posts.specs.Ends.{in_ends, items_at, known_rows, AreFresh};
 ghost use Rattle.line_posts.specs.Extension.{Extends};
 ghost use Rattle.line_posts.specs.Collected.{collector_of, passed_count, HasCollected};
 ghost use Rattle.line_posts.specs.Collected.{HasCollectedMore};
 ghost use Rattle.line_posts.specs.Collected.{HasLeft, HasOnlyLooked, HaveAllFailed, IsCollector};
 ghost use Rattle.line_posts.specs.Collected.{IsNotTaken, ShowsNone};
 
+use crate::ends::{front_at, look_at, take_at};
 use crate::keeping::keep_planned;
 use line_catalogue::{AddError, Catalogue};
 use line_names::{MOST_PROCESSES, ProcId, ProcSet};
 use line_plan::{Plan, PlanError};
-use line_rings::{front_at, look_at, take_at};
 use line_tape::{Event, History, Marks};
 use rtrb::Consumer;
 use std::alloc::Global;
 use std::marker::Model;
 use std::snapshot::Snapshot;
 
-// How many reports come at least between two times that a collector keeps what is in transit, so
-// that what a plan takes but for what it finds is little beside them.
+// How many reports come at least before a collector plans once more to keep what is in transit: so
+// many that such a plan, apart from what it finds, costs little beside them.
 const REPORTS_BETWEEN: usize = 16_384;
 
 /// The history that was collected so far, as a catalogue, and the other ends of the report lines.
@@ -38,12 +38,12 @@ pub struct Collector {
     pub(crate) catalogue: Catalogue,
     pub(crate) lines: Vec<Consumer<Event>>,
     pub(crate) capacity: usize,
-    // How many further reports come before `take` keeps what is in transit.
+    // How many more reports come before `take` plans to keep what is in transit.
     due: usize,
 }
 
 impl Model for Collector {
-    ghost use Rattle.line_rings.specs.Ends.{in_ends, known_rows};
+    ghost use Rattle.line_posts.specs.Ends.{in_ends, known_rows};
     ghost use Rattle.line_posts.specs.Collected.{collector_of, CollectorView, IsCollector};
 
     ghost Value = { CollectorView };
@@ -110,9 +110,9 @@ impl Collector {
 
     /// Plans the recovery line of what was collected so far, as if every process failed now.
     ///
-    /// The line stays consistent in each later history, so that what lies before it can be kept. It
-    /// looks at what was in transit at a line that is kept, at each send after that one and before
-    /// the planned one, and at the receipts between the two; and at what each plan looks at.
+    /// The line stays consistent in each later history. The call costs a plan, which looks at what
+    /// is in transit at the line that was kept last, and at each send and each receipt between that
+    /// line and the planned one.
     pub fn plan_live(&self) -> Result<Plan, PlanError>
         ensures latest { IfOk result (λ plan. (failed : List Bool)
             × HaveAllFailed (length self.now.processes) failed
@@ -129,8 +129,8 @@ impl Collector {
         line_plan::plan(self.alloc, &self.catalogue, &failed)
     }
 
-    /// Keeps what is in transit at the line that is planned now, if as many reports were taken as
-    /// pay for it. Where memory for it is refused, it is put off.
+    /// Plans and keeps what is in transit at the planned line, if enough reports were taken since
+    /// it last did so. Where memory for the plan is refused, it does so later.
     fn keep_due(&mut self)
         ensures { self.new ≡ self.old }
     {
@@ -142,8 +142,8 @@ impl Collector {
         self.due = looked.saturating_add(REPORTS_BETWEEN);
     }
 
-    /// Takes the next report of a process, if its line shows one; a refused one stays in front. It
-    /// is tested there, so that it need not be copied.
+    /// Takes the next report of a process, if its line shows one. The report is tested where it
+    /// stands, in front of the line, and stays there if it is refused.
     fn take_one(&mut self, p: ProcId) -> Result<bool, AddError>
         requires { p < length self.old.opening }
         ensures ok { IfOk result (λ did. MatchBool did (HasCollected self.old p self.new)
@@ -171,7 +171,7 @@ impl Collector {
         Ok(true)
     }
 
-    /// Takes reports of a process until its line shows none, and at most so many.
+    /// Takes reports of a process until its line shows none, and at most `limit`.
     fn take_from(&mut self, p: ProcId, limit: u32) -> Result<u32, AddError>
         requires { p < length self.old.opening }
         ensures more { HasCollectedMore self.old self.new }
@@ -193,14 +193,14 @@ impl Collector {
         Ok(limit)
     }
 
-    /// Takes reports, of each process in turn until its line shows none, and at most `limit`. It
-    /// answers how many it took.
+    /// Takes at most `limit` reports, of each process in turn until its line shows none. It answers
+    /// how many it took.
     ///
-    /// A refused report stays in front of its line, and those taken before it stay taken. It is
-    /// refused for what it is and for its tape before memory is asked for. It costs a look at each
-    /// line, and for each report what `Catalogue::add` costs. Now and then it plans and keeps what
-    /// is in transit at that line, for `plan_live`, at a cost that the reports since have paid for;
-    /// where memory for it is refused, nothing else differs.
+    /// A refused report stays in front of its line, and those taken before it stay taken. What is
+    /// wrong with a report, or with its tape, is told before memory is asked for. The call costs a
+    /// look at each line, and for each report what `Catalogue::add` costs. Once enough reports have
+    /// come to pay for it, it also plans and keeps what is in transit at that line, for
+    /// `plan_live`; where memory for this is refused, nothing else differs.
     pub fn take(&mut self, limit: u32) -> Result<u32, AddError>
         ensures more { HasCollectedMore self.old self.new }
         ensures limit { IfOk result (λ k. k ≤ limit) }

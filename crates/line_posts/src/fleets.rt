@@ -5,7 +5,7 @@ ghost use Rattle.line_tape.specs.History.{fresh, Process};
 ghost use Rattle.line_tape.specs.Fit.{IsFitFifo};
 ghost use Rattle.line_tape.specs.Views.{no_marks};
 ghost use Rattle.line_tape.specs.declared.events.Event.{Event};
-ghost use Rattle.line_rings.specs.Ends.{in_ends, in_rows, out_rows, AreLinked, End};
+ghost use Rattle.line_posts.specs.Ends.{in_ends, in_rows, out_rows, AreLinked, End};
 ghost use Rattle.line_posts.specs.Collected.{collector_of};
 ghost use Rattle.line_posts.specs.Generations.{AreLined, IsGeneration};
 ghost use Rattle.line_posts.specs.Openings.{AreOpened};
@@ -14,21 +14,21 @@ ghost use Rattle.line_posts.specs.Preparations.{AreJournals, IsPrepared};
 ghost use Rattle.line_posts.specs.Replays.{packets_of, AreAllReplays};
 
 use crate::collectors::{Collector, open_collector};
+use crate::journals::Journal;
 use crate::limits::{MOST_CAPACITY, MOST_WORKERS};
+use crate::links::{Rings, make_rings};
 use crate::parcels::{Packet, Parcel};
 use crate::posts::{Post, open_post};
 use crate::refusals::FleetError;
 use crate::replays::no_packets_yet;
 use line_catalogue::Catalogue;
-use line_journals::Journal;
 use line_names::{MOST_PROCESSES, ProcId};
-use line_rings::{Rings, make_rings};
 use line_tape::{Event, History, Tape};
 use rtrb::{Consumer, Producer};
 use std::alloc::{AllocError, Global};
 use std::collections::VecDeque;
 
-/// Takes the first of them.
+/// Takes the first item of a list.
 fn take_first<T>(items: &mut Vec<T>) -> T
     requires { 0 < length items.old.items }
     ensures { items.old.items ≡ result ∷ items.new.items }
@@ -36,8 +36,8 @@ fn take_first<T>(items: &mut Vec<T>) -> T
     items.remove(0)
 }
 
-/// All that the workers of a generation take memory for: by number their journals, what they keep,
-/// and the rings and the report lines; and room for themselves.
+/// All that the workers of a generation take memory for: the journal of each, the replays that it
+/// keeps, the rings and the report lines, and room for the list of workers.
 #[derive(Drop)]
 pub(crate) struct Prepared {
     pub(crate) journals: Vec<Journal>,
@@ -47,8 +47,8 @@ pub(crate) struct Prepared {
     pub(crate) posts: Vec<Post>,
 }
 
-/// Rings and report lines of this capacity for workers with these journals and replays, and room
-/// for them.
+/// Makes rings and report lines of this capacity for workers with these journals and replays, and
+/// room for the list of workers.
 pub(crate) fn prepare(
     alloc: Global,
     journals: Vec<Journal>,
@@ -73,7 +73,7 @@ pub(crate) fn prepare(
     })
 }
 
-/// The workers, each with its own ends of the rings, in room that was made for them.
+/// Makes the workers, each with its own ends of the rings, in room that was made for them.
 fn make_posts(
     alloc: Global,
     history: &History,
@@ -111,15 +111,15 @@ fn make_posts(
     posts
 }
 
-/// Workers that begin a generation, and the other ends of their report lines.
+/// The workers of a new generation, and the other ends of their report lines.
 #[derive(Drop)]
 pub(crate) struct Opened {
     pub(crate) posts: Vec<Post>,
     pub(crate) lines: Vec<Consumer<Event>>,
 }
 
-/// The workers that begin a generation with a history, and the other ends of their report lines. It
-/// takes no memory and cannot fail.
+/// Opens the workers of a generation that begins with this history. It takes no memory and cannot
+/// fail.
 pub(crate) fn open_all(alloc: Global, history: &History, prepared: Prepared) -> Opened
     requires fit { IsFitFifo history.now.processes }
     requires prepared { (floor : ℕ) × (capacity : ℕ)
@@ -158,9 +158,9 @@ fn prepare_fresh(alloc: Global, n: u32, capacity: usize) -> Result<Prepared, All
     prepare(alloc, journals, replays, capacity)
 }
 
-/// A first generation of `n` workers with no event yet, 1 to `MOST_WORKERS` of them, its collector,
-/// and a ring of this capacity, 1 to `MOST_CAPACITY`, from each worker to each and from each to the
-/// collector.
+/// Opens a first generation: `n` workers that have done nothing yet, 1 to `MOST_WORKERS`, and their
+/// collector. A ring of this capacity, 1 to `MOST_CAPACITY`, leads from each worker to each, and
+/// one from each to the collector.
 ///
 /// It makes n² rings for messages, one from each worker to itself among them, which stays empty.
 pub fn fleet(alloc: Global, n: u32, capacity: usize) -> Result<(Collector, Vec<Post>), FleetError>

@@ -1,28 +1,28 @@
-//! What the collector has not taken of the workers when they are back, and how it is added.
+//! The events that the collector has not taken when the workers are back are copied and added.
 ghost use Rattle.std.specs.Prelude.{◌≡◌, ◌≢◌, ◌<◌, ◌≤◌, ◌+◌, ◌++◌, [], ℕ, List, IfOk, Some};
 ghost use Rattle.std.specs.Prelude.{length, take, drop};
 ghost use Rattle.std.specs.VecDeque.{deque_items};
 ghost use Rattle.line_tape.specs.declared.events.Event.{Event};
 ghost use Rattle.line_tape.specs.History.{process_at, tape_at, incarnation_at};
 ghost use Rattle.line_catalogue.specs.Views.{catalogue_room_at};
-ghost use Rattle.line_rings.specs.Ends.{in_ends, items_at, known_rows, ring_at, row_at, StillKnow};
+ghost use Rattle.line_posts.specs.Ends.{in_ends, items_at, known_rows, ring_at, row_at, StillKnow};
 ghost use Rattle.line_posts.specs.Posts.{opening_tape};
 ghost use Rattle.line_posts.specs.Gathered.{gathered_tape};
 ghost use Rattle.line_posts.specs.Gathering.{rows_of, AreFurtherBelow, AreReady, IsOnWay, IsReady};
 
+use crate::ends::meet_end;
 use crate::keeping::keep_planned;
 use crate::posts::Post;
 use crate::queues::{keeps, take_kept};
 use line_catalogue::Catalogue;
 use line_names::{ProcId, ProcSet};
-use line_rings::meet_end;
 use line_tape::{Event, Tape};
 use rtrb::Consumer;
 use std::alloc::{AllocError, Global};
 use std::collections::VecDeque;
 
 impl Post {
-    /// How many events of its tape are gathered of it: all, and where it failed those that it
+    /// How many events of the worker's tape are gathered: all or, where it failed, those that it
     /// reported. What lies on its report line is known from here on.
     fn gathered_len(&mut self, lines: &mut Vec<Consumer<Event>>, p: usize, failed: bool) -> u32
         requires within { p < length lines.old.items }
@@ -44,7 +44,7 @@ impl Post {
     }
 }
 
-/// Copies of so many events of a tape, from a place on.
+/// Copies `k` events of a tape, from place `from` on.
 fn copies(alloc: Global, tape: &Tape, from: u32, k: u32) -> Result<VecDeque<Event>, AllocError>
     requires { from + k ≤ length tape.now.events }
     ensures { IfOk result (λ events. deque_items events ≡ take k (drop from tape.now.events)) }
@@ -58,7 +58,8 @@ fn copies(alloc: Global, tape: &Tape, from: u32, k: u32) -> Result<VecDeque<Even
     Ok(events)
 }
 
-/// The events of a worker that the collector has not taken, and room for them.
+/// Copies the events of a worker that are gathered and that the collector has not taken, and makes
+/// room for them.
 fn further_of(
     alloc: Global,
     catalogue: &mut Catalogue,
@@ -89,7 +90,8 @@ fn further_of(
     Ok(events)
 }
 
-/// Those of each worker, and room for them.
+/// Copies, of each worker, the events that are gathered and that the collector has not taken, and
+/// makes room for them.
 pub(crate) fn further_of_all(
     alloc: Global,
     catalogue: &mut Catalogue,
@@ -118,7 +120,7 @@ pub(crate) fn further_of_all(
     Ok(further)
 }
 
-/// Adds the further events of a process.
+/// Adds the further events of a process, in room that was made for them.
 fn add_events(catalogue: &mut Catalogue, further: &mut Vec<VecDeque<Event>>, p: ProcId)
     requires within { p < length catalogue.old.processes }
     requires way { IsOnWay catalogue.old.processes (rows_of further.old.items)
@@ -137,8 +139,9 @@ fn add_events(catalogue: &mut Catalogue, further: &mut Vec<VecDeque<Event>>, p: 
     }
 }
 
-/// Adds the further events of each process, in room that was made for them, and keeps what is in
-/// transit at the line that is planned where these failed, so that later plans look at little.
+/// Adds the further events of each process, in room that was made for them. Then it plans as if
+/// these processes failed and keeps what is in transit at that line, so that later plans look at
+/// little.
 pub(crate) fn add_and_keep(
     alloc: Global,
     catalogue: &mut Catalogue,

@@ -34,8 +34,8 @@ use line_tape::{History, Marks};
 use std::alloc::Global;
 use std::marker::Model;
 
-/// What was gathered of a generation: a history, marks of damage, who failed, and the last round
-/// that the lead recorded; and how many items each of its rings held.
+/// What was gathered of a generation: a history, marks of damage, who failed, the last round that
+/// the lead recorded, and the capacity of a ring.
 #[derive(Drop)]
 pub struct Gathered {
     pub(crate) alloc: Global,
@@ -147,13 +147,12 @@ fn last_round(posts: &Vec<Post>) -> u32
     posts[0].latest()
 }
 
-/// Gathers what the workers of a generation did: of those that did not fail all, of the failed ones
-/// what they reported. A refusal hands collector and posts back as they were.
+/// Gathers what the workers of a generation did: of a worker that failed what it reported, and of
+/// each other one all. A refusal hands collector and posts back as they were.
 ///
-/// It compares the two ends of each ring, n² of them, copies and adds each event that the collector
-/// has not taken, and plans once, to keep what is in transit at that line for `plan` and `restart`;
-/// where memory for that plan is refused, nothing else differs. What still lies on the rings is not
-/// taken from them.
+/// It compares the two ends of each of n² rings, copies and adds each event that the collector has
+/// not taken, and plans once to keep what is in transit at that line, for `plan` and `restart`;
+/// where memory for that plan is refused, nothing else differs. What lies on the rings stays there.
 pub fn gather(
     mut collector: Collector,
     mut posts: Vec<Post>,

@@ -6,11 +6,11 @@ use line_names::ProcSet;
 use line_plan::{Plan, plan};
 use std::alloc::Global;
 
-/// Keeps what is in transit at the line that is planned where these failed, so that no later plan
-/// looks at another send before that line; answers how many entries and replays the plan has. Where
-/// memory for the plan is refused, nothing is kept.
+/// Plans as if these processes failed, and keeps in the catalogue what is in transit at that line:
+/// of the sends before the line, later plans look at these alone. It answers how many entries and
+/// replays the plan has, or 0 where memory for the plan is refused, and then keeps nothing.
 ///
-/// It is a function of its own, since a plan is a large value and is made seldom.
+/// It is not inlined, since a plan is a large value and is made seldom.
 #[inline(never)]
 pub(crate) fn keep_planned(alloc: Global, catalogue: &mut Catalogue, failed: &ProcSet) -> usize
     ensures { catalogue.new ≡ catalogue.old }

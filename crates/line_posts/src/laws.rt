@@ -5,8 +5,8 @@ ghost use Rattle.line_posts.specs.Collected.{CollectorView, HasCollectedMore};
 ghost use Rattle.line_posts.specs.Extension.{Extends};
 ghost use Rattle.line_posts.specs.Generations.{AreLined, AreSamePosts, IsGeneration};
 
-/// Workers that come back with the rings that they went with are of the generation that they were
-/// of, and so is a collector that took reports.
+/// Workers that come back with the rings that they went with are still of one generation, and so is
+/// their collector, which may have taken reports.
 pub fn generations_last()
     ensures lines { (collector later : CollectorView) (old new : List PostView)
         → HasCollectedMore collector later → AreSamePosts old new

@@ -1,13 +1,14 @@
 //! Markers on the rings.
 ghost use Rattle.std.specs.Prelude.{◌≡◌, ◌≢◌, ◌<◌, ◌∷◌, ℕ, length};
-ghost use Rattle.line_rings.specs.Ends.{out_ends, in_ends, known_at, with_item};
-ghost use Rattle.line_rings.specs.Ends.{HasRoomBelow};
+ghost use Rattle.line_posts.specs.Ends.{out_ends, in_ends, known_at, with_item};
+ghost use Rattle.line_posts.specs.Ends.{HasRoomBelow};
 ghost use Rattle.line_posts.specs.Receipts.{BeginsWithMarker};
 ghost use Rattle.line_posts.specs.Markers.{with_others};
 ghost use Rattle.line_posts.specs.declared.parcels.Parcel.TheVariants.{Marker};
 
+use crate::ends::take_at;
 use crate::parcels::Parcel;
-use line_rings::{push_known, take_at};
+use crate::rooms::push_known;
 use rtrb::{Consumer, Producer};
 
 /// Puts the marker of a round on the ring to each other process, where slots are known to be free.

@@ -5,8 +5,8 @@ ghost use Rattle.std.specs.VecDeque.{deque_items};
 ghost use Rattle.line_tape.specs.Event.{checks};
 ghost use Rattle.line_tape.specs.Fit.{IsFitFifo};
 ghost use Rattle.line_tape.specs.History.{IsTape};
-ghost use Rattle.line_rings.specs.Ends.{free_at, out_ends, in_ends, known_rows, producer_end};
-ghost use Rattle.line_journals.specs.Journals.{IsSameJournal};
+ghost use Rattle.line_posts.specs.Ends.{free_at, out_ends, in_ends, known_rows, producer_end};
+ghost use Rattle.line_posts.specs.Journals.{IsSameJournal};
 ghost use Rattle.line_posts.specs.Posts.{checked_alone, incarnation_of_post, next_message_name};
 ghost use Rattle.line_posts.specs.Posts.{post_of};
 ghost use Rattle.line_posts.specs.Posts.{reported_count, sent_by, IsPost};
@@ -15,11 +15,11 @@ ghost use Rattle.line_posts.specs.Refusals.{IsNotSent, MaySend};
 ghost use Rattle.line_posts.specs.Generations.{IsSamePost};
 ghost use Rattle.line_posts.specs.Openings.{IsOpening};
 
+use crate::journals::Journal;
 use crate::parcels::{Packet, Parcel};
 use crate::refusals::{SendRefused, SendWhy};
-use line_journals::Journal;
+use crate::rooms::{has_slot, push_known};
 use line_names::{Body, MsgName, ProcId};
-use line_rings::{has_slot, push_known};
 use line_tape::{Event, History, MOST_EVENTS, MOST_STATE, State, Tape, TapeError};
 use rtrb::{Consumer, Producer};
 use std::alloc::Global;
@@ -52,7 +52,7 @@ impl Model for Post {
     ghost use Rattle.std.specs.Prelude.{◌≡◌, ◌+◌, length, map};
     ghost use Rattle.std.specs.VecDeque.{deque_items};
     ghost use Rattle.line_tape.specs.History.{tape_at, incarnation_at};
-    ghost use Rattle.line_rings.specs.Ends.{out_ends, in_ends, known_rows, producer_end, StillKnow};
+    ghost use Rattle.line_posts.specs.Ends.{out_ends, in_ends, known_rows, producer_end, StillKnow};
     ghost use Rattle.line_posts.specs.Posts.{post_of, IsPost, PostView};
 
     ghost Value = { PostView };
@@ -81,7 +81,7 @@ pub(crate) fn message_name(from: ProcId, inc: u16, number: u32) -> MsgName
 }
 
 /// Tests whether a worker can send a message to another process now, and makes room for it on the
-/// worker's tape; then the ring to that process has a free slot.
+/// worker's tape. Where it can, the ring to that process has a free slot.
 fn make_way(
     me: ProcId,
     journal: &mut Journal,
@@ -94,7 +94,7 @@ fn make_way(
     ensures ends { out_ends outs.new.items ≡ out_ends outs.old.items }
     ensures long { length outs.new.items ≡ length outs.old.items }
 
-    // What a send wants.
+    // What a send needs.
     ensures process { OnOk result (to < length outs.old.items) }
     ensures other { OnOk result (to ≢ me) }
     ensures few { OnOk result (length journal.old.tape < MOST_EVENTS) }
@@ -166,7 +166,7 @@ pub(crate) fn open_post(
 }
 
 impl Post {
-    /// Its number.
+    /// The worker's number.
     pub fn number(&self) -> u32
         ensures value { result ≡ self.now.number }
         ensures known { IsPost self.now × IsTape self.now.tape }
@@ -182,7 +182,7 @@ impl Post {
         self.outs.len()
     }
 
-    /// Its tape.
+    /// The worker's tape.
     pub fn tape(&self) -> &Tape
         ensures value { result.now.events ≡ self.now.tape }
         ensures known { IsPost self.now }
@@ -190,21 +190,22 @@ impl Post {
         self.journal.tape()
     }
 
-    /// The incarnation under which it sends, which is how often its process has gone back.
+    /// The incarnation under which the worker sends: how often its process has gone back.
     pub fn incarnation(&self) -> u16
         ensures { result ≡ incarnation_of_post self.now }
     {
         self.incarnation
     }
 
-    /// How many events of its tape it has not reported.
+    /// How many events of the worker's tape it has not reported.
     pub fn unreported(&self) -> u32
         ensures { reported_count self.now + result ≡ length self.now.tape }
     {
         self.journal.len() - self.reported
     }
 
-    /// Sends a message to another process, whose name is answered; a refusal hands the body back.
+    /// Sends a message to another process, and answers the message's name. A refusal hands the body
+    /// back.
     ///
     /// It is one push on the ring to that process, after which the tape has the Send. It costs a
     /// constant, but for a tape that grows.

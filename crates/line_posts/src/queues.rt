@@ -1,7 +1,7 @@
 //! Queues by process: the first item of a queue.
 ghost use Rattle.std.specs.Prelude.{◌≡◌, ◌<◌, ◌∷◌, [], IsTrue, List, false, length, map};
 ghost use Rattle.std.specs.VecDeque.{deque_items};
-ghost use Rattle.line_rings.specs.Ends.{row_at};
+ghost use Rattle.line_posts.specs.Ends.{row_at};
 ghost use Rattle.line_posts.specs.Receipts.{without_first};
 
 use std::collections::VecDeque;

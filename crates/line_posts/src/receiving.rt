@@ -4,9 +4,9 @@ ghost use Rattle.std.specs.Prelude.{OnErr, MatchOption, length};
 ghost use mathlib.Core.List.{IsPrefix};
 ghost use Rattle.line_tape.specs.History.{Process};
 ghost use Rattle.line_tape.specs.declared.events.Event.{Event};
-ghost use Rattle.line_rings.specs.Ends.{End, StillKnow, in_ends, items_at, known_at, known_rows};
-ghost use Rattle.line_rings.specs.Ends.{out_ends, row_at, with_item};
-ghost use Rattle.line_journals.specs.Journals.{IsSameJournal};
+ghost use Rattle.line_posts.specs.Ends.{End, StillKnow, in_ends, items_at, known_at, known_rows};
+ghost use Rattle.line_posts.specs.Ends.{out_ends, row_at, with_item};
+ghost use Rattle.line_posts.specs.Journals.{IsSameJournal};
 ghost use Rattle.line_posts.specs.Parcels.{packet_name};
 ghost use Rattle.line_posts.specs.Posts.{PostView, post_of};
 ghost use Rattle.line_posts.specs.Receipts.{BeginsWithMarker, BeginsWithMessage, HasReceived};
@@ -18,14 +18,15 @@ ghost use Rattle.line_posts.specs.declared.parcels.Parcel.{Parcel};
 ghost use Rattle.line_posts.specs.declared.parcels.Parcel.TheVariants.{Message};
 ghost use Rattle.line_posts.specs.declared.receiving.Received.TheVariants.{Message as TookMessage};
 
+use crate::ends::{front_at, look_at, take_at};
+use crate::journals::Journal;
 use crate::markers::{push_markers, take_known_marker};
 use crate::parcels::{Packet, Parcel};
 use crate::posts::{Post, message_name};
 use crate::queues::{first_kept, keeps, take_kept};
 use crate::refusals::ReceiveWhy;
-use line_journals::Journal;
+use crate::rooms::has_room;
 use line_names::{Body, MsgName, ProcId};
-use line_rings::{front_at, has_room, look_at, take_at};
 use line_tape::{MOST_EVENTS, MOST_STATE, State};
 use rtrb::{Consumer, Producer};
 use std::snapshot::Snapshot;
@@ -90,8 +91,9 @@ fn opened(from: ProcId, packet: Packet) -> Received
     }
 }
 
-/// Takes what comes next on the ring from another process of which no replay is kept, by the parts
-/// of a worker that it changes; a refusal changes none of them, but that more may have been seen.
+/// Takes what comes next on the ring from another process, of which no replay is kept. Its
+/// arguments are the parts of the worker that it changes. A refusal changes none of them, but more
+/// of the ring may have been seen.
 fn take_next(
     me: ProcId,
     journal: &mut Journal,
@@ -174,7 +176,7 @@ fn take_next(
 }
 
 impl Post {
-    /// Takes the first of the replays that it keeps of another process.
+    /// Takes the first of the replays that the worker keeps of another process.
     fn receive_replay(&mut self, from: ProcId) -> Result<Received, ReceiveWhy>
         requires within { from < length self.old.opening }
         requires other { from ≢ self.old.number }
@@ -223,13 +225,13 @@ impl Post {
         taken
     }
 
-    /// Takes what comes next from another process: of the replays that it keeps of it first, and
-    /// then of the ring.
+    /// Takes what comes next from another process: first the replays that the worker keeps of it,
+    /// and then what is on the ring.
     ///
     /// A message is answered with its name and body, and the tape has its Recv. A marker of a round
     /// (Chandy and Lamport, 1985) puts its Mark on the tape; where the tape has no check of that
     /// round, a check with this state goes before it, and a marker on the ring to each other
-    /// process. That wants a free slot on each of these: without one the marker stays in front.
+    /// process. That needs a free slot on each of these; without one the marker stays in front.
     pub fn receive(&mut self, from: ProcId, state: State) -> Result<Received, ReceiveWhy>
         ensures ok { IfOk result (λ r. HasReceived self.old from state r self.new) }
         ensures err { OnErr result (HasOnlySeen self.old self.new) }

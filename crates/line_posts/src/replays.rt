@@ -9,7 +9,7 @@ ghost use Rattle.line_tape.specs.Rounds.{checked_round, rounds_checked};
 ghost use Rattle.line_tape.specs.Shown.{event_of_ref};
 ghost use Rattle.line_tape.specs.Transit.{in_transit, in_transit_between};
 ghost use Rattle.line_tape.specs.declared.items.Item.TheVariants.{Message};
-ghost use Rattle.line_rings.specs.Ends.{row_at};
+ghost use Rattle.line_posts.specs.Ends.{row_at};
 ghost use Rattle.line_posts.specs.Openings.{parcels_left, ArePlain};
 ghost use Rattle.line_posts.specs.Parcels.{items_of_parcels, parcels_of, parcels_sent};
 ghost use Rattle.line_posts.specs.Preparations.{AreJournals};
@@ -17,15 +17,15 @@ ghost use Rattle.line_posts.specs.Replays.{cell_at, counts_of, packets_of, take_
 ghost use Rattle.line_posts.specs.Replays.{with_cell, AreAllReplays, AreCounted, AreOfSender};
 ghost use Rattle.line_posts.specs.Replays.{AreSquare, IsNoted};
 
+use crate::journals::Journal;
 use crate::parcels::Packet;
-use line_journals::Journal;
 use line_names::{Body, MOST_BODY, MsgName};
 use line_plan::Plan;
 use line_tape::{EventRef, History, Tape};
 use std::alloc::{AllocError, Global};
 use std::collections::VecDeque;
 
-/// No messages yet, from each of `n` processes to each.
+/// No messages are counted yet, from each of `n` processes to each.
 fn no_counts(alloc: Global, n: u32) -> Result<Vec<Vec<usize>>, AllocError>
     ensures { IfOk result (λ counts. counts_of counts.items ≡ replicate n (replicate n 0)) }
 {
@@ -37,7 +37,7 @@ fn no_counts(alloc: Global, n: u32) -> Result<Vec<Vec<usize>>, AllocError>
     Ok(counts)
 }
 
-/// Counts one message more from process p to q.
+/// Counts one more message from process p to q.
 fn count_one(counts: &mut Vec<Vec<usize>>, sums: &mut Vec<usize>, p: usize, q: usize)
     requires from { p < length counts.old.items }
     requires to { q < length (row_at (counts_of counts.old.items) p) }
@@ -94,7 +94,7 @@ fn count_messages(
     }
 }
 
-/// No packets yet, to each of `n` processes from each.
+/// Empty queues of packets, to each of `n` processes from each.
 pub(crate) fn no_packets_yet(
     alloc: Global,
     n: u32,
@@ -112,7 +112,7 @@ pub(crate) fn no_packets_yet(
     Ok(packets)
 }
 
-/// Puts a packet from process p before those that wait for q.
+/// Puts a packet from process p in front of those that wait for q.
 fn put_packet(
     packets: &mut Vec<Vec<VecDeque<Packet>>>,
     q: usize,
@@ -143,7 +143,7 @@ fn packet(inc: u16, number: u32, body: &[u8]) -> Packet
 }
 
 /// Takes the message that an event of process p sends, if it is looked for. It answers how many it
-/// took.
+/// took, one or zero.
 fn note_sent(
     event: &EventRef<'_>,
     p: usize,
@@ -176,7 +176,7 @@ fn note_sent(
     }
 }
 
-/// How many messages the event sends: one or none.
+/// How many messages the event sends: one or zero.
 fn sent_by(event: &EventRef<'_>) -> u32
     ensures value { result ≡ sends (event_of_ref event.now ∷ []) }
     ensures one { result ≤ 1 }
@@ -189,8 +189,8 @@ fn sent_by(event: &EventRef<'_>) -> u32
     }
 }
 
-/// Takes the last messages that process p sent to each process, bodies included, as many as are
-/// counted, and `sum` in all. It looks at its tape from the end back to the first of them.
+/// Takes the last messages that process p sent to each process, bodies included: to each as many as
+/// `counts` says, `sum` in all. It reads the tape of p from its end back to the first of them.
 fn add_sent(
     tape: &Tape,
     p: usize,
@@ -225,11 +225,11 @@ fn add_sent(
     Ok(())
 }
 
-/// What the links hold where all goes on from the planned line, by receiver and then sender; the
-/// journals are those of the workers that go on.
+/// What the links hold where all processes go on from the planned line, by receiver and then
+/// sender; `journals` are those of the workers that go on.
 ///
-/// It is what the plan says was in transit: how many messages from whom to whom. Each tape is
-/// looked at from its end back to the first of them that its process sent.
+/// The plan says which messages were in transit there. They are counted by sender and receiver, and
+/// are found on the tapes: each tape is read from its end back to the first of them.
 pub(crate) fn all_replays(
     alloc: Global,
     gathered: &History,

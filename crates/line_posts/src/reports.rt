@@ -6,7 +6,7 @@ ghost use Rattle.std.specs.VecDeque.{deque_items};
 ghost use Rattle.rtrb.specs.Ring.{known_free};
 ghost use Rattle.line_tape.specs.Event.{state_of, IsShort};
 ghost use Rattle.line_tape.specs.Shown.{event_of_ref};
-ghost use Rattle.line_rings.specs.Ends.{producer_end, slots_of};
+ghost use Rattle.line_posts.specs.Ends.{producer_end, slots_of};
 ghost use Rattle.line_posts.specs.Posts.{reported_count};
 ghost use Rattle.line_posts.specs.Generations.{IsSamePost};
 ghost use Rattle.line_posts.specs.Reports.{with_items, HasReported};
@@ -22,7 +22,7 @@ use std::collections::VecDeque;
 /// What a call of `report` did.
 #[derive(Clone, Copy, Debug, PartialEq, Eq)]
 pub struct Reported {
-    /// How many events this call put there.
+    /// How many events this call put on the report line.
     pub sent: u32,
     /// How many events of the tape are not reported yet.
     pub left: u32,
@@ -47,8 +47,8 @@ fn keep_state(
     }
 }
 
-/// Copies of the states that so many events of a tape store, from a place on: all that a report
-/// takes memory for.
+/// Copies the states that `k` events of a tape store, from place `from` on. A report takes memory
+/// for nothing else.
 fn states_of(alloc: Global, tape: &Tape, from: u32, k: u32) -> Result<VecDeque<State>, AllocError>
     requires { from + k ≤ length tape.now.events }
     ensures { IfOk result (λ states.
@@ -62,7 +62,7 @@ fn states_of(alloc: Global, tape: &Tape, from: u32, k: u32) -> Result<VecDeque<S
     Ok(states)
 }
 
-/// An event in memory of its own, with the first of the states where it is a check.
+/// An event that owns what it carries. If it is a check, it takes the first of the states.
 fn event_of(event: &EventRef<'_>, states: &mut VecDeque<State>) -> Event
     requires short { IsShort (event_of_ref event.now) }
     requires state { (rest : List (List ℕ))
@@ -89,8 +89,8 @@ fn event_of(event: &EventRef<'_>, states: &mut VecDeque<State>) -> Event
     }
 }
 
-/// Puts so many events of a tape, from a place on, on a report line that is known to have room for
-/// them; the states are what those of them that are checks store.
+/// Puts `k` events of a tape, from place `from` on, on a report line that is known to have room for
+/// them. `states` are copies of the states that the checks among them store.
 fn put_each(line: &mut Producer<Event>, tape: &Tape, from: u32, k: u32, states: VecDeque<State>)
     requires within { from + k ≤ length tape.now.events }
     requires states { deque_items states
@@ -108,10 +108,10 @@ fn put_each(line: &mut Producer<Event>, tape: &Tape, from: u32, k: u32, states: 
 }
 
 impl Post {
-    /// Puts the events that it has not reported yet on the report line, as many as fit there.
+    /// Puts the events that the worker has not reported yet on its report line, as many as fit.
     ///
-    /// Each is made where it is put there. It takes memory for the states of checks alone, and for
-    /// all of these before it puts anything there.
+    /// It takes memory for the states of checks alone, and for all of these before it puts an event
+    /// on the line.
     pub fn report(&mut self) -> Result<Reported, ReportError>
         ensures ok { IfOk result (λ r. HasReported self.old r.sent self.new) }
         ensures sent { IfOk result (λ r.

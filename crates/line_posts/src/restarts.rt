@@ -1,4 +1,4 @@
-//! Where what was gathered goes on: a new generation, from the planned line.
+//! A new generation goes on from what was gathered, at the planned line.
 ghost use Rattle.std.specs.Prelude.{◌≡◌, ◌<◌, ◌≤◌, ◌+◌, ℕ, List, IfOk, IfErr, IfSome, IsTrue};
 ghost use Rattle.std.specs.Prelude.{length, map, slice_index_or, vec_len};
 ghost use Rattle.line_names.specs.Lines.{IsNowhereLater};
@@ -21,11 +21,11 @@ ghost use Rattle.line_posts.specs.Preparations.{AreJournals, IsPrepared};
 use crate::collectors::{Collector, open_collector};
 use crate::fleets::{Prepared, open_all, prepare};
 use crate::gathering::Gathered;
+use crate::journals::Journal;
 use crate::posts::Post;
 use crate::refusals::RestartWhy;
 use crate::replays::all_replays;
 use line_catalogue::Catalogue;
-use line_journals::Journal;
 use line_names::{Line, MsgName, ProcId};
 use line_plan::Plan;
 use line_tape::History;
@@ -38,7 +38,8 @@ pub struct RestartRefused {
     pub gathered: Gathered,
 }
 
-/// Has all go on from a line, with what is in transit there where that is told.
+/// Cuts the history of a catalogue at a line. The catalogue keeps `left`, what is in transit there,
+/// if it is given.
 fn go_on(catalogue: &mut Catalogue, line: &Line, left: Option<Vec<MsgName>>)
     requires line { IsLine catalogue.old.processes line.now }
     requires consistent { IsConsistent catalogue.old.processes line.now }
@@ -55,7 +56,7 @@ fn go_on(catalogue: &mut Catalogue, line: &Line, left: Option<Vec<MsgName>>)
     }
 }
 
-/// The journals of the workers that go on from a line: each tape is copied and cut there.
+/// The journals of the workers that go on from a line, each with a copy of its tape, cut there.
 fn journals_at(
     alloc: Global,
     history: &History,
@@ -80,7 +81,7 @@ fn journals_at(
 }
 
 impl Gathered {
-    /// All that the workers that go on from the planned line take memory for.
+    /// Makes all that the workers that go on from the planned line take memory for.
     fn prepare_next(&self, plan: &Plan) -> Result<Prepared, AllocError>
         requires latest { IsLatest self.now.processes self.now.marks self.now.failed plan.now.line }
         requires replays { plan.now.replays.items ≡ in_transit self.now.processes plan.now.line }
@@ -99,8 +100,8 @@ impl Gathered {
         prepare(self.alloc, journals, replays, self.capacity)
     }
 
-    /// The collector and the workers that go on from a line, with what is in transit there where
-    /// that is told. It takes no memory and cannot fail.
+    /// Opens the collector and the workers that go on from a line. `left` is what is in transit
+    /// there, if it is given. It takes no memory and cannot fail.
     fn open_next(
         self,
         line: &Line,
@@ -130,17 +131,17 @@ impl Gathered {
         (collector, opened.posts)
     }
 
-    /// Has all go on from the planned line: a new generation, and the plan.
+    /// Opens a new generation that goes on from the planned line, and answers the plan too.
     ///
     /// Each tape is cut at the line, and each worker keeps the messages that were in transit to it
     /// there, with their bodies; it receives them before anything that is sent to it from now on.
     /// Rings and report lines are new ones of the same capacity, and rounds are numbered on. A
     /// refusal hands the value back as it was.
     ///
-    /// It costs what `plan` does, a copy of each tape, for the worker, so that a refusal can hand
-    /// the value back, two copies of the plan's replays, one with their bodies, a look at each tape
-    /// from its end back to the first message of it that is in transit, and a step for each two
-    /// workers.
+    /// It costs a plan, a copy of each tape, two copies of the plan's replays, one with their
+    /// bodies, a walk of each tape from its end back to the first of its messages that is in
+    /// transit, and a step for each two workers. Tapes are copied so that a refusal can hand the
+    /// value back.
     pub fn restart(self) -> Result<(Collector, Vec<Post>, Plan), RestartRefused>
         ensures latest { IfOk result (λ r.
             IsLatest self.processes self.marks self.failed r.2.line) }
@@ -195,8 +196,8 @@ impl Gathered {
                 gathered: self,
             });
         };
-        // What was in transit is known, so that no later plan asks of the sends before the line
-        // again. Without memory for a copy of it, the next plans do.
+        // The catalogue keeps what was in transit, so that later plans pass over the sends before
+        // the line. Where memory for this copy is refused, they look at these sends.
         let left = Vec::from_slice(self.alloc, plan.replays.as_slice()).ok();
         let (collector, posts) = self.open_next(&plan.line, left, prepared);
         Ok((collector, posts, plan))

@@ -2,26 +2,26 @@
 ghost use Rattle.std.specs.Prelude.{◌≡◌, ◌<◌, ◌≤◌, ◌+◌, false, IfOk, IfErr, OnOk, OnErr, length};
 ghost use Rattle.line_marker.specs.Recording.{latest};
 ghost use Rattle.line_tape.specs.Rounds.{has_check_of};
-ghost use Rattle.line_rings.specs.Ends.{out_ends, HasRoomBelow};
-ghost use Rattle.line_journals.specs.Journals.{IsOpen, IsRecorded, IsSameJournal};
+ghost use Rattle.line_posts.specs.Ends.{out_ends, HasRoomBelow};
+ghost use Rattle.line_posts.specs.Journals.{IsOpen, IsRecorded, IsSameJournal};
 ghost use Rattle.line_posts.specs.Markers.{checked_by};
 ghost use Rattle.line_posts.specs.Posts.{PostView};
 ghost use Rattle.line_posts.specs.Generations.{IsSamePost};
 ghost use Rattle.line_posts.specs.Refusals.{IsNotBegun, MayBegin};
 
+use crate::journals::Journal;
 use crate::markers::push_markers;
 use crate::parcels::Parcel;
 use crate::posts::Post;
 use crate::refusals::BeginWhy;
-use line_journals::Journal;
+use crate::rooms::has_room;
 use line_marker::Marker;
 use line_names::ProcId;
-use line_rings::has_room;
 use line_tape::{LAST_ROUND, MOST_EVENTS, MOST_STATE, State};
 use rtrb::Producer;
 
-/// Tests whether a worker can begin a round with this state now, and makes room for its check; then
-/// each ring has a free slot. The number of the round is answered.
+/// Tests whether a worker can begin a round with this state now, and makes room for its check.
+/// Where it can, each ring has a free slot, and the number of the round is answered.
 fn make_round(
     me: ProcId,
     journal: &mut Journal,
@@ -34,7 +34,7 @@ fn make_round(
     ensures same { IsSameJournal journal.old journal.new }
     ensures ends { out_ends outs.new.items ≡ out_ends outs.old.items }
 
-    // What a round wants.
+    // What a round needs.
     ensures round { IfOk result (λ r. (r ≡ latest journal.old.floor journal.old.rounds + 1)
         × (has_check_of r journal.old.tape ≡ false)) }
     ensures lead { OnOk result (me ≡ 0) }
@@ -79,8 +79,8 @@ fn make_round(
 }
 
 impl Post {
-    /// The lead begins a round (Chandy and Lamport, 1985): its check, and a marker on the ring to
-    /// each other process. The number of the round is answered.
+    /// Begins a round (Chandy and Lamport, 1985): the lead takes its check, puts a marker on the
+    /// ring to each other process, and answers the number of the round.
     pub fn begin(&mut self, state: State) -> Result<u32, BeginWhy>
         ensures ok { IfOk result (λ r. (r ≡ latest self.old.floor self.old.rounds + 1)
             × (self.new ≡ checked_by self.old state r)) }
@@ -97,14 +97,15 @@ impl Post {
         Ok(round)
     }
 
-    /// The last round that it has recorded; where it has none, the last one before its generation.
+    /// The last round that the worker has recorded or, where it has none, the last one before its
+    /// generation.
     pub fn latest(&self) -> u32
         ensures { result ≡ latest self.now.floor self.now.rounds }
     {
         self.journal.latest()
     }
 
-    /// What it has recorded of rounds: of each, what its tape has.
+    /// What the worker has recorded of rounds: of each, what its tape has.
     pub fn marker(&self) -> &Marker
         ensures rounds { result.now.rounds ≡ self.now.rounds }
         ensures recorded { IsRecorded (length self.now.opening) self.now.floor self.now.tape

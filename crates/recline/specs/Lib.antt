@@ -82,12 +82,12 @@ pub use Rattle.line_text.specs.Judgings
 pub use Rattle.line_text.specs.Runs as TextRuns
 -- Workers.
 pub use Rattle.line_marker.specs.Recording
-pub use Rattle.line_journals.specs.Journals
-pub use Rattle.line_rings.specs.Ends
 pub use Rattle.line_posts.specs.Collected
+pub use Rattle.line_posts.specs.Ends
 pub use Rattle.line_posts.specs.Extension
 pub use Rattle.line_posts.specs.Gathered
 pub use Rattle.line_posts.specs.Generations
+pub use Rattle.line_posts.specs.Journals
 pub use Rattle.line_posts.specs.Markers
 pub use Rattle.line_posts.specs.Openings
 pub use Rattle.line_posts.specs.Parcels

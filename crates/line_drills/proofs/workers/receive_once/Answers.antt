@@ -3,7 +3,7 @@ use Rattle.line_tape.specs.declared.limits.TheConstants.{MOST_EVENTS}
 use Rattle.line_posts.specs.declared.refusals.ReceiveWhy.{ReceiveWhy}
 use Rattle.line_posts.specs.declared.refusals.ReceiveWhy.TheVariants.{NothingThere, RingFull}
 use Rattle.line_posts.specs.Refusals.{IsNotReceived}
-use Rattle.line_rings.specs.Ends.{row_at}
+use Rattle.line_posts.specs.Ends.{row_at}
 use Rattle.line_posts.specs.declared.receiving.Received.{Received}
 use Rattle.line_posts.specs.Receipts.{HasReceived}
 use Rattle.line_drills.proofs.MarkerLemmas.{marker_seen, marker_taken}

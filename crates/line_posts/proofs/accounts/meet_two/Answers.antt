@@ -1,5 +1,5 @@
-use Rattle.line_rings.specs.Ends.{known_rows}
-use Rattle.line_rings.proofs.EndLemmas.{knows_more}
+use Rattle.line_posts.specs.Ends.{known_rows}
+use Rattle.line_posts.proofs.EndLemmas.{knows_more}
 use Rattle.line_posts.proofs.accounts.meet_two.Goals as goal
 
 pub invariant_of-to : goal.invariant_of-to

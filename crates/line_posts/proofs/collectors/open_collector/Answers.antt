@@ -1,7 +1,7 @@
 use Rattle.std.proofs.Common.{◌∙◌, ap}
 use Rattle.std.proofs.lemmas.List.{length-map}
 use Rattle.line_tape.specs.Views.{HistoryView}
-use Rattle.line_rings.specs.Ends.{consumer_end}
+use Rattle.line_posts.specs.Ends.{consumer_end}
 use Rattle.line_posts.proofs.ReportLemmas.{collects}
 use Rattle.line_posts.proofs.collectors.open_collector.Goals as goal
 

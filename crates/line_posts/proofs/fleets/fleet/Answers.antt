@@ -2,7 +2,7 @@ use Rattle.std.proofs.Common.{◌∙◌, List, length, replicate, sym, ap, subst
 use Rattle.std.proofs.lemmas.List.{length-map}
 use Rattle.line_tape.specs.History.{fresh, Process}
 use Rattle.line_tape.specs.declared.events.Event.{Event}
-use Rattle.line_rings.specs.Ends.{consumer_end, in_ends, End}
+use Rattle.line_posts.specs.Ends.{consumer_end, in_ends, End}
 use Rattle.line_posts.specs.Collected.{CollectorView}
 use Rattle.line_posts.specs.Openings.{AreOpened}
 use Rattle.line_posts.specs.Preparations.{IsPrepared}

@@ -4,8 +4,8 @@ use Rattle.std.specs.Prelude.{slice_get}
 use Rattle.std.proofs.lemmas.List.{length-drop, length-map}
 use Rattle.std.proofs.lemmas.Result.{OkIff-at_ok}
 use Rattle.line_tape.specs.History.{tape_at}
-use Rattle.line_rings.specs.Ends.{out_ends, in_ends, out_rows, in_rows, known_rows, producer_end}
-use Rattle.line_rings.specs.Ends.{row_at}
+use Rattle.line_posts.specs.Ends.{out_ends, in_ends, out_rows, in_rows, known_rows, producer_end}
+use Rattle.line_posts.specs.Ends.{row_at}
 use Rattle.line_posts.specs.Fleets.{AreReplays}
 use Rattle.line_posts.specs.Gathering.{rows_of}
 use Rattle.line_posts.specs.Replays.{packets_of}

@@ -1,6 +1,6 @@
 use Rattle.std.proofs.Common.{◌≡◌, ◌≤◌, ℕ, drop, length}
 use Rattle.std.specs.Prelude.{vec_capacity}
-use Rattle.line_rings.specs.Ends.{out_rows, in_rows}
+use Rattle.line_posts.specs.Ends.{out_rows, in_rows}
 use Rattle.line_posts.specs.Fleets.{AreMade}
 use Rattle.line_posts.specs.Preparations.{AreJournals}
 use Rattle.line_posts.specs.Replays.{packets_of}

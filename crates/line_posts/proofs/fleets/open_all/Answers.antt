@@ -1,5 +1,5 @@
 use Rattle.std.proofs.Common.{refl, ap, length}
-use Rattle.line_rings.specs.Ends.{in_ends, in_rows, out_rows}
+use Rattle.line_posts.specs.Ends.{in_ends, in_rows, out_rows}
 use Rattle.line_posts.proofs.FleetLemmas.{opened_of}
 use Rattle.line_posts.proofs.fleets.open_all.Goals as goal
 

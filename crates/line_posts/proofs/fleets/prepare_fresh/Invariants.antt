@@ -1,6 +1,6 @@
 use Rattle.std.proofs.Common.{◌≡◌, ℕ, length, replicate}
 use Rattle.std.specs.Prelude.{slice_get, Some}
-use Rattle.line_journals.specs.Journals.{JournalView}
+use Rattle.line_posts.specs.Journals.{JournalView}
 use Rattle.line_tape.specs.History.{fresh}
 use Rattle.line_posts.specs.Preparations.{IsJournalAt}
 use Rattle.line_posts.proofs.fleets.prepare_fresh.Given as goal

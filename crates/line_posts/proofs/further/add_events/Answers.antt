@@ -1,7 +1,7 @@
 use Rattle.std.proofs.Common.{◌≡◌, ◌∙◌, ◌∷◌, [], List, length, drop, ap, subst, arith}
 use Rattle.std.proofs.lemmas.List.{get_or-set_other}
 use Rattle.line_tape.specs.declared.events.Event.{Event}
-use Rattle.line_rings.specs.Ends.{row_at}
+use Rattle.line_posts.specs.Ends.{row_at}
 use Rattle.line_posts.specs.Receipts.{without_first}
 use Rattle.line_posts.specs.Gathering.{rows_of}
 use Rattle.line_posts.proofs.GatheringLemmas.{addable, way_here, way_next, way_then}

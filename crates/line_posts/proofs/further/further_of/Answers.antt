@@ -2,7 +2,7 @@ use Rattle.std.proofs.Common.{◌≡◌, ◌∙◌, ◌++◌, ◌-◌, List, len
 use Rattle.std.specs.VecDeque.{deque_items}
 use Rattle.line_tape.specs.declared.events.Event.{Event}
 use Rattle.line_tape.specs.History.{Process, tape_at}
-use Rattle.line_rings.specs.Ends.{in_ends, items_at}
+use Rattle.line_posts.specs.Ends.{in_ends, items_at}
 use Rattle.line_posts.specs.Posts.{opening_tape, PostView}
 use Rattle.line_posts.specs.Gathered.{gathered_tape}
 use Rattle.line_posts.proofs.GatheringLemmas.{seen_front, further_is}

@@ -6,8 +6,8 @@ use Rattle.line_names.specs.Sets.{is_member}
 use Rattle.line_tape.specs.History.{tape_at}
 use Rattle.line_posts.specs.Gathered.{gathered_tape}
 use Rattle.line_posts.specs.Gathering.{rows_of}
-use Rattle.line_rings.specs.Ends.{known_rows}
-use Rattle.line_rings.proofs.EndLemmas.{knows_self, knows_then}
+use Rattle.line_posts.specs.Ends.{known_rows}
+use Rattle.line_posts.proofs.EndLemmas.{knows_self, knows_then}
 use Rattle.line_posts.proofs.MeetLemmas.{there, set_back}
 use Rattle.line_posts.proofs.GatheringLemmas.{further_more}
 use Rattle.line_posts.proofs.further.further_of_all.Goals as goal

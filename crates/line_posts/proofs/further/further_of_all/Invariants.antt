@@ -1,6 +1,6 @@
 use Rattle.std.proofs.Common.{◌≡◌, ◌≤◌, length}
 use Rattle.std.specs.Prelude.{vec_capacity}
-use Rattle.line_rings.specs.Ends.{in_ends, known_rows, StillKnow}
+use Rattle.line_posts.specs.Ends.{in_ends, known_rows, StillKnow}
 use Rattle.line_posts.specs.Gathering.{rows_of, AreFurtherBelow}
 use Rattle.line_posts.proofs.further.further_of_all.Given as goal
 

@@ -1,8 +1,8 @@
 use Rattle.std.proofs.Common.{◌≡◌, ◌∙◌, ◌++◌, ℕ, List, length, sym, ap, subst, arith}
 use Rattle.line_tape.specs.declared.events.Event.{Event}
 use Rattle.line_tape.specs.History.{Process, process_at, tape_at, incarnation_at}
-use Rattle.line_rings.specs.Ends.{in_ends, known_rows, row_at}
-use Rattle.line_rings.proofs.EndLemmas.{still_rows}
+use Rattle.line_posts.specs.Ends.{in_ends, known_rows, row_at}
+use Rattle.line_posts.proofs.EndLemmas.{still_rows}
 use Rattle.line_posts.specs.Posts.{PostView}
 use Rattle.line_posts.specs.Extension.{Extends}
 use Rattle.line_posts.specs.Collected.{CollectorView}

@@ -1,6 +1,6 @@
 use Rattle.std.proofs.Common.{◌<◌, ◌∙◌, length, refl, sym, subst, arith}
 use Rattle.std.proofs.lemmas.List.{length-map}
-use Rattle.line_rings.specs.Ends.{out_ends, producer_end}
+use Rattle.line_posts.specs.Ends.{out_ends, producer_end}
 use Rattle.line_posts.proofs.MarkerLemmas.{below_past, below_zero, below_more, long_below}
 use Rattle.line_posts.proofs.markers.push_markers.Goals as goal
 use Rattle.line_posts.proofs.markers.push_markers.Goals.{then-q-me, else-q-me}

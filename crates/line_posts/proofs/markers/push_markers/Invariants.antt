@@ -1,5 +1,5 @@
 use Rattle.std.proofs.Common.{◌≡◌, ◌<◌, ◌≤◌, ℕ, length}
-use Rattle.line_rings.specs.Ends.{out_ends, free_at}
+use Rattle.line_posts.specs.Ends.{out_ends, free_at}
 use Rattle.line_posts.specs.declared.parcels.Parcel.TheVariants.{Marker}
 use Rattle.line_posts.proofs.MarkerLemmas.{with_others_below}
 use Rattle.line_posts.proofs.markers.push_markers.Given as goal

@@ -1,7 +1,7 @@
 use Rattle.std.proofs.Common.{◌≡◌, ◌+◌, List, length, map, sym, ap, subst, arith}
 use Rattle.std.specs.VecDeque.{deque_items}
-use Rattle.line_rings.specs.Ends.{producer_end, out_ends, in_ends, known_rows, StillKnow}
-use Rattle.line_rings.proofs.EndLemmas.{knows_self}
+use Rattle.line_posts.specs.Ends.{producer_end, out_ends, in_ends, known_rows, StillKnow}
+use Rattle.line_posts.proofs.EndLemmas.{knows_self}
 use Rattle.line_posts.specs.declared.parcels.Parcel.{Parcel}
 use Rattle.rtrb.specs.declared.consumer.Consumer.{Consumer}
 use Rattle.rtrb.specs.declared.AnyItems.{AnyItems}

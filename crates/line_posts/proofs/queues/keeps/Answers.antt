@@ -2,7 +2,7 @@ use Rattle.std.proofs.Common.{◌<◌, ◌∙◌, length, sym, ap, subst, arith}
 use Rattle.std.specs.VecDeque.{deque_items}
 use Rattle.std.proofs.lemmas.Bool.{not-true, not-false, eqb-true, eqb-false}
 use Rattle.std.proofs.lemmas.List.{nil_from_length}
-use Rattle.line_rings.proofs.RowLemmas.{row_seen}
+use Rattle.line_posts.proofs.RowLemmas.{row_seen}
 use Rattle.line_posts.proofs.queues.keeps.Goals as goal
 
 pub returns-clause-yes_is : goal.returns-clause-yes_is

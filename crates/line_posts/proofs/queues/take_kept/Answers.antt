@@ -1,7 +1,7 @@
 use Rattle.std.proofs.Common.{◌<◌, ◌++◌, ◌∙◌, length, sym, ap, subst, arith}
 use Rattle.std.specs.VecDeque.{deque_items}
 use Rattle.std.specs.Option.{option_to_list}
-use Rattle.line_rings.proofs.RowLemmas.{row_seen}
+use Rattle.line_posts.proofs.RowLemmas.{row_seen}
 use Rattle.line_posts.proofs.ReceiveLemmas.{pop_row}
 use Rattle.line_posts.proofs.queues.take_kept.Goals as goal
 

@@ -1,8 +1,8 @@
 use Rattle.std.proofs.Common.{rules, true, false, ◌∙◌, refl, sym, ap, subst, arith}
 use Rattle.std.specs.Prelude.{length, ◌≡◌, []}
 use Rattle.line_tape.specs.Rounds.{has_check_of}
-use Rattle.line_rings.specs.Ends.{known_at, HasFilled}
-use Rattle.line_rings.proofs.EndLemmas.{rows_known}
+use Rattle.line_posts.specs.Ends.{known_at, HasFilled}
+use Rattle.line_posts.proofs.EndLemmas.{rows_known}
 use Rattle.line_posts.specs.declared.parcels.Parcel.TheVariants.{Message, Marker}
 use Rattle.line_posts.proofs.ReceiveLemmas.{sees_more}
 use Rattle.line_posts.proofs.LookLemmas.{full_marker, full_message, lack_marker, lack_message, ring_marker, sees_popped}

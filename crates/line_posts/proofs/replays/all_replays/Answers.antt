@@ -15,8 +15,8 @@ use Rattle.line_tape.proofs.EachLemmas.{restarted-each}
 use Rattle.line_tape.proofs.HistoryCuts.{IsHistory-restarted}
 use Rattle.line_laws.proofs.LetterLemmas.{open_are, parts}
 use Rattle.line_tape.proofs.StayLemmas.{length_restarted}
-use Rattle.line_rings.specs.Ends.{row_at}
-use Rattle.line_rings.proofs.RowLemmas.{row_seen}
+use Rattle.line_posts.specs.Ends.{row_at}
+use Rattle.line_posts.proofs.RowLemmas.{row_seen}
 use Rattle.line_posts.specs.Openings.{parcels_left}
 use Rattle.line_posts.specs.Parcels.{item_of, items_of_parcels}
 use Rattle.line_posts.specs.Replays.{counts_of, packets_of, total, AreOfSender, AreSquare}

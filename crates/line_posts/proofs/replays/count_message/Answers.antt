@@ -1,5 +1,5 @@
 use Rattle.std.proofs.Common.{◌≡◌, ◌∙◌, ◌+◌, ◌<◌, length, set, get_or, sym, subst, arith}
-use Rattle.line_rings.specs.Ends.{row_at}
+use Rattle.line_posts.specs.Ends.{row_at}
 use Rattle.line_posts.specs.Replays.{cell_at, counts_of, with_cell}
 use Rattle.line_posts.proofs.CountLemmas.{counted_more, few_between, goes_within}
 use Rattle.line_posts.proofs.replays.count_message.Goals as goal

@@ -1,6 +1,6 @@
 use Rattle.std.proofs.Common.{◌≡◌, ◌∙◌, ◌+◌, ◌<◌, length, get_or, set, sym, ap, arith}
-use Rattle.line_rings.specs.Ends.{row_at}
-use Rattle.line_rings.proofs.RowLemmas.{row_seen}
+use Rattle.line_posts.specs.Ends.{row_at}
+use Rattle.line_posts.proofs.RowLemmas.{row_seen}
 use Rattle.line_posts.specs.Replays.{counts_of, cell_at}
 use Rattle.line_posts.proofs.SortLemmas.{cell_put, other_default}
 use Rattle.line_posts.proofs.replays.count_one.Goals as goal

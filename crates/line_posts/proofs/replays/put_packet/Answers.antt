@@ -1,8 +1,8 @@
 use Rattle.std.proofs.Common.{◌≡◌, ◌∙◌, ◌<◌, ◌∷◌, [], length, set, sym, ap, arith}
 use Rattle.std.specs.VecDeque.{deque_items}
 use Rattle.std.proofs.lemmas.List.{map-set, length-map}
-use Rattle.line_rings.specs.Ends.{row_at}
-use Rattle.line_rings.proofs.RowLemmas.{row_seen}
+use Rattle.line_posts.specs.Ends.{row_at}
+use Rattle.line_posts.proofs.RowLemmas.{row_seen}
 use Rattle.line_posts.specs.Gathering.{rows_of}
 use Rattle.line_posts.specs.Replays.{packets_of, cell_at}
 use Rattle.line_posts.proofs.SortLemmas.{cell_put}

@@ -1,5 +1,5 @@
 use Rattle.std.proofs.Common.{◌≡◌, ◌≢◌, ◌+◌, ℕ}
-use Rattle.line_rings.specs.Ends.{items_at}
+use Rattle.line_posts.specs.Ends.{items_at}
 use Rattle.line_posts.specs.Collected.{passed_count, HasCollectedMore, HasLeft}
 use Rattle.line_posts.proofs.collectors.Collector.take_from.Given as goal
 

@@ -1,7 +1,7 @@
 use Rattle.std.proofs.Common.{◌≡◌, ◌≢◌, ◌<◌, ◌∙◌, ◌∷◌, [], ℕ, List, refl, length, sym, ap, subst, arith}
 use mathlib.Core.List.{IsPrefix}
-use Rattle.line_rings.specs.Ends.{in_ends, items_at, known_at, known_rows, row_at, with_item}
-use Rattle.line_rings.proofs.EndLemmas.{items_other, looked_rows, other_rows, rows_known, taken_rows}
+use Rattle.line_posts.specs.Ends.{in_ends, items_at, known_at, known_rows, row_at, with_item}
+use Rattle.line_posts.proofs.EndLemmas.{items_other, looked_rows, other_rows, rows_known, taken_rows}
 use Rattle.line_tape.specs.History.{Process, with_event}
 use Rattle.line_posts.specs.Collected.{collector_of, CollectorView}
 use Rattle.line_posts.proofs.ReportLemmas.{addable_still, collect_keeps, collected_is, left_others, looked_only, more_is, more_seen, not_added, same_first}

@@ -4,7 +4,7 @@ use Rattle.line_tape.specs.Fit.{IsFitFifo}
 use Rattle.line_tape.specs.History.{Process}
 use Rattle.line_tape.specs.Line.{IsConsistent}
 use Rattle.line_tape.specs.Restart.{restarted_history}
-use Rattle.line_rings.specs.Ends.{consumer_end, in_ends, End}
+use Rattle.line_posts.specs.Ends.{consumer_end, in_ends, End}
 use Rattle.line_tape.specs.declared.events.Event.{Event}
 use Rattle.line_posts.specs.Collected.{CollectorView}
 use Rattle.line_posts.specs.Gathered.{GatheredView}

@@ -1,5 +1,5 @@
 use Rattle.std.proofs.Common.{◌∙◌, refl, ap}
-use Rattle.line_rings.specs.Ends.{out_ends, ring_at}
+use Rattle.line_posts.specs.Ends.{out_ends, ring_at}
 use Rattle.line_posts.proofs.MarkerLemmas.{check_keeps, ring_others}
 use Rattle.line_posts.proofs.SameLemmas.{same_via}
 use Rattle.line_posts.proofs.posts.Post.begin.Goals as goal

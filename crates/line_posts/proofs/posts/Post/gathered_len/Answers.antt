@@ -1,6 +1,6 @@
 use Rattle.std.proofs.Common.{◌∙◌, ap, subst}
-use Rattle.line_rings.specs.Ends.{known_rows}
-use Rattle.line_rings.proofs.EndLemmas.{knows_more, knows_self}
+use Rattle.line_posts.specs.Ends.{known_rows}
+use Rattle.line_posts.proofs.EndLemmas.{knows_more, knows_self}
 use Rattle.line_posts.specs.Posts.{IsPost, PostView}
 use Rattle.line_posts.proofs.GatheringLemmas.{gathered_known}
 use Rattle.line_posts.proofs.posts.Post.gathered_len.Goals as goal

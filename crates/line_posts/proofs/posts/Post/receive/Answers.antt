@@ -1,6 +1,6 @@
 use Rattle.std.proofs.Common.{◌∙◌, length, sym, ap, arith}
 use Rattle.std.proofs.lemmas.List.{length-map}
-use Rattle.line_rings.specs.Ends.{producer_end, row_at}
+use Rattle.line_posts.specs.Ends.{producer_end, row_at}
 use Rattle.line_posts.proofs.ReceiveLemmas.{sees_self}
 use Rattle.line_posts.specs.Posts.{PostView}
 use Rattle.line_posts.specs.Refusals.{IsNotReceived, MayReceive}

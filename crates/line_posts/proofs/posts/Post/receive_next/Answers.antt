@@ -5,7 +5,7 @@ use Rattle.std.specs.declared.alloc.Global.{Global}
 use Rattle.std.specs.declared.vec.Vec.{Vec}
 use Rattle.rtrb.specs.declared.AnyItems.{AnyItems}
 use Rattle.rtrb.specs.declared.consumer.Consumer.{Consumer}
-use Rattle.line_rings.specs.Ends.{in_ends, known_rows, out_ends, producer_end, row_at}
+use Rattle.line_posts.specs.Ends.{in_ends, known_rows, out_ends, producer_end, row_at}
 use Rattle.line_posts.specs.declared.parcels.Parcel.{Parcel}
 use Rattle.line_posts.specs.Posts.{PostView, post_of}
 use Rattle.line_posts.specs.Receipts.{HasOnlySeen, HasReceived}

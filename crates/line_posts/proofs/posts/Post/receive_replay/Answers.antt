@@ -1,7 +1,7 @@
 use Rattle.std.proofs.Common.{◌≡◌, ◌∙◌, map, sym, ap, subst, arith}
 use Rattle.std.specs.Prelude.{length, ◌<◌}
 use Rattle.std.specs.VecDeque.{deque_items}
-use Rattle.line_rings.specs.Ends.{in_ends, known_rows, row_at}
+use Rattle.line_posts.specs.Ends.{in_ends, known_rows, row_at}
 use Rattle.line_posts.specs.Posts.{PostView}
 use Rattle.line_posts.specs.Receipts.{without_first}
 use Rattle.line_posts.proofs.ReceiveLemmas.{replay_keeps}

@@ -1,7 +1,7 @@
 use Rattle.std.proofs.Common.{◌≡◌, ◌∙◌, refl, ap, arith}
 use Rattle.std.proofs.lemmas.List.{length-map}
-use Rattle.line_rings.specs.Ends.{out_ends, with_item, producer_end, ring_at}
-use Rattle.line_rings.proofs.EndLemmas.{ring_item}
+use Rattle.line_posts.specs.Ends.{out_ends, with_item, producer_end, ring_at}
+use Rattle.line_posts.proofs.EndLemmas.{ring_item}
 use Rattle.line_posts.specs.declared.parcels.Parcel.TheVariants.{Message}
 use Rattle.line_posts.proofs.StepLemmas.{send_keeps}
 use Rattle.line_posts.proofs.SameLemmas.{same_via}

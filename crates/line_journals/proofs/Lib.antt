@@ -1,3 +1,0 @@
-pub mod RecordLemmas
-pub mod MarkerLemmas
-pub mod ScanLemmas

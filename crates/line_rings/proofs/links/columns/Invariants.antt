@@ -1,6 +1,0 @@
-use Rattle.std.proofs.Common.{◌≡◌, [], replicate}
-use Rattle.line_rings.specs.Ends.{in_rows}
-use Rattle.line_rings.proofs.links.columns.Given as goal
-
-abbrev pub invariant-loop-q : goal.invariant-loop-q
-invariant-loop-q g l = in_rows l.ins.items ≡ replicate l._q []
