@@ -15,7 +15,7 @@ fn mixed(word: u64) -> u64 {
 }
 
 impl Dice {
-    /// A generator from a seed.
+    /// A generator that begins at a seed.
     pub fn new(seed: u64) -> Dice {
         Dice { state: seed }
     }
@@ -42,7 +42,7 @@ impl Dice {
         self.below(n) + 1
     }
 
-    /// Whether something happens that happens so often of a hundred times.
+    /// `true` in `often` of a hundred cases.
     pub fn percent(&mut self, often: u32) -> bool {
         self.below(100) < often
     }

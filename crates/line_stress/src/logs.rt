@@ -1,13 +1,13 @@
-//! What a worker remembers of the answers that its calls gave.
+//! What a worker keeps of the answers to its calls.
 
 use line_names::{Body, MsgName, ProcId};
 use line_posts::Reported;
 use line_tape::State;
 
-/// The answers of one worker: the CRC-32 of all that was handed in and answered, and some counts.
+/// The answers to the calls of one worker: a CRC-32 of what was handed in and answered, and counts.
 ///
-/// What goes into it is, of an accepted call: a letter for its kind, then its numbers, each with
-/// its highest byte first, and the bytes of the body or the state after their length.
+/// Each accepted call goes into the CRC-32 as a letter for its kind, its numbers, each with the
+/// highest byte first, and then the length and the bytes of its body or state.
 #[derive(Clone, Copy, Drop)]
 pub struct AnswerLog {
     digest: u32,
@@ -19,7 +19,7 @@ pub struct AnswerLog {
 }
 
 impl AnswerLog {
-    /// No call yet, where the tape has so many events.
+    /// No call yet; the tape has `opening` events.
     pub fn new(opening: u32) -> AnswerLog {
         AnswerLog {
             digest: u32::MAX,
@@ -31,7 +31,7 @@ impl AnswerLog {
         }
     }
 
-    /// The CRC-32 of all so far.
+    /// The CRC-32 of all calls so far.
     pub fn digest(&self) -> u32 {
         !self.digest
     }
@@ -61,22 +61,22 @@ impl AnswerLog {
         self.number(name.number);
     }
 
-    /// A call answered what it should not.
+    /// Counts an answer that should not be.
     pub fn fault(&mut self) {
         self.faults = self.faults.wrapping_add(1);
     }
 
-    /// A ring had no free slot.
+    /// Counts that a ring had no free slot.
     pub fn no_slot(&mut self) {
         self.full = self.full.wrapping_add(1);
     }
 
-    /// A ring had nothing.
+    /// Counts that a ring had no item.
     pub fn no_item(&mut self) {
         self.nothing = self.nothing.wrapping_add(1);
     }
 
-    /// A message went out.
+    /// Notes that a message was sent.
     pub fn sent(&mut self, to: ProcId, name: &MsgName, body: &Body) {
         self.bytes(b"s");
         self.number(to.get());
@@ -84,7 +84,7 @@ impl AnswerLog {
         self.data(body.bytes());
     }
 
-    /// A message came from a worker that was asked.
+    /// Notes that a message was received from worker `from`.
     pub fn received(&mut self, from: ProcId, name: &MsgName, body: &Body) {
         self.bytes(b"r");
         self.number(from.get());
@@ -92,7 +92,8 @@ impl AnswerLog {
         self.data(body.bytes());
     }
 
-    /// The marker of a round came from a worker; with a state, it forced a check.
+    /// Notes that the marker of a round was received from worker `from`; where it forced a check,
+    /// `forced` is the state of that check.
     pub fn marked(&mut self, from: ProcId, round: u32, forced: Option<&State>) {
         self.bytes(b"m");
         self.number(from.get());
@@ -103,21 +104,22 @@ impl AnswerLog {
         }
     }
 
-    /// A check was taken, of this index.
+    /// Notes that a check of this index was taken.
     pub fn checked(&mut self, index: u32, state: &State) {
         self.bytes(b"c");
         self.number(index);
         self.data(state.bytes());
     }
 
-    /// A round was begun.
+    /// Notes that a round was begun.
     pub fn begun(&mut self, round: u32, state: &State) {
         self.bytes(b"b");
         self.number(round);
         self.data(state.bytes());
     }
 
-    /// Some events were reported of a tape that has so many.
+    /// Notes a report of a tape that has `events` events. Those that are reported and those that
+    /// are left must be all of them.
     pub fn told(&mut self, reported: &Reported, events: u32) {
         self.reported = self.reported.wrapping_add(reported.sent);
         let known = self.opening.wrapping_add(self.reported);

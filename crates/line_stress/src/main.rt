@@ -3,10 +3,10 @@
 //! printed as records, which `scripts/stress_workers` judges by the definitions; the checker of the
 //! repository judges each plan here.
 //!
-//! Words: the seed, the number of the first lineage, how many lineages at most, and the seconds
-//! after which no lineage begins. A lineage is a fleet and the generations that go on from it; what
-//! its workers try follows from seed and number alone, and what comes of it from the turns of the
-//! threads too.
+//! A lineage is a fleet and the generations that go on from it. The calls that its workers try are
+//! determined by the seed and the number of the lineage; their answers also depend on the order in
+//! which the threads run. The words of the command line are the seed, the number of the first
+//! lineage, how many lineages there are at most, and after how many seconds no lineage begins.
 #![tactic(auto)]
 
 ghost use Rattle.line_posts.specs.Generations.{AreLined, IsGeneration};
@@ -36,10 +36,10 @@ use std::sync::{OnceLock, Wait};
 use std::thread::Threads;
 use std::time::Instant;
 
-/// A lineage ends with a history of more events.
+/// A lineage ends once its history has more events than this.
 const MANY_EVENTS: u64 = 8_000;
 
-/// A lineage has at most so many generations.
+/// How many generations a lineage has at most.
 const MOST_GENERATIONS: u32 = 24;
 
 /// One generation of a lineage.
@@ -117,7 +117,7 @@ fn tell_workers<R: Print>(
     print_history(rt, alloc, "collected", collector.history())
 }
 
-/// Marks some check of some process as damaged, or is refused.
+/// Marks a random check of a random process as damaged, and prints whether the mark was refused.
 fn damage(
     dice: &mut Dice,
     text: &mut Text,
@@ -180,7 +180,7 @@ fn events_in(history: &History) -> u64 {
     events
 }
 
-/// A generation from its opening to what is gathered of it.
+/// Runs a generation from its opening to its gathering.
 fn generation<R: Threads + Wait + Sync + Print>(
     rt: &R,
     alloc: Global,
@@ -206,7 +206,7 @@ fn generation<R: Threads + Wait + Sync + Print>(
     }
 }
 
-/// The next generation of a lineage.
+/// Restarts what was gathered, and runs the next generation of the lineage.
 fn next<R: Threads + Wait + Sync + Print>(
     rt: &R,
     alloc: Global,
@@ -229,7 +229,7 @@ fn next<R: Threads + Wait + Sync + Print>(
     }
 }
 
-/// A fleet, and the generations that go on from it.
+/// Opens a fleet, and runs the generations that go on from it.
 fn lineage<R: Threads + Wait + Sync + Print>(
     rt: &R,
     alloc: Global,
@@ -261,7 +261,7 @@ fn lineage<R: Threads + Wait + Sync + Print>(
     Ok(())
 }
 
-/// Lineages one after another, for so many seconds.
+/// Runs lineages one after another; none begins after `seconds` seconds.
 fn lineages<R: Threads + Wait + Sync + Print + Clock>(
     rt: &R,
     alloc: Global,

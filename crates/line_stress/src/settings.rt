@@ -1,15 +1,16 @@
-//! What the generations of a run are like.
+//! Random settings of generations.
 
 use crate::dice::Dice;
 
-/// What a generation is like: how often a worker makes which call, against the others, and more.
+/// What a generation is like. The numbers from `sends` to `yields` are weights: of all calls, each
+/// kind has its share of their sum.
 #[derive(Clone, Copy)]
 pub struct Settings {
-    /// How many calls a worker makes that does not fail.
+    /// How many turns a worker takes that does not fail.
     pub turns: u32,
     /// Whether no worker begins before all have started.
     pub meets: bool,
-    /// To how many of the workers after it a worker sends.
+    /// To how many workers each worker sends: those that come after it by number.
     pub reach: u32,
     pub sends: u32,
     pub receives: u32,
@@ -18,25 +19,26 @@ pub struct Settings {
     pub sweeps: u32,
     pub begins: u32,
     pub yields: u32,
-    /// The greatest length of a state, and of a body.
+    /// The greatest length of a state, in bytes.
     pub state: u32,
+    /// The greatest length of a body, in bytes.
     pub body: u32,
-    /// How many of a hundred workers fail.
+    /// How many workers fail, of a hundred.
     pub failures: u32,
-    /// How often of a hundred times the collector plans after it took reports, and how many it
-    /// takes at most.
+    /// How often the collector plans after it took reports, of a hundred times.
     pub plans: u32,
+    /// How many reports the collector takes at once, at most.
     pub takes: u32,
     /// How many checks are marked as damaged, at most.
     pub damages: u32,
 }
 
-/// One of four numbers.
+/// One of four numbers, at random.
 fn one_of(dice: &mut Dice, numbers: [u32; 4]) -> u32 {
     numbers[dice.below(4) as usize]
 }
 
-/// How many workers there are.
+/// A random number of workers.
 pub fn workers(dice: &mut Dice) -> u32 {
     let way = dice.below(10);
     if way < 6 {
@@ -48,7 +50,7 @@ pub fn workers(dice: &mut Dice) -> u32 {
     2 + dice.below(63)
 }
 
-/// How many slots a ring has.
+/// A random number of slots for each ring.
 pub fn capacity(dice: &mut Dice) -> usize {
     let most = one_of(dice, [1, 2, 16, 1_024]);
     if most == 0 {
@@ -57,7 +59,7 @@ pub fn capacity(dice: &mut Dice) -> usize {
     dice.to(most) as usize
 }
 
-/// How many calls a worker makes.
+/// A random number of turns for each of `n` workers.
 fn turns(dice: &mut Dice, n: u32) -> u32 {
     let most = one_of(dice, [20, 100, 300, 900]);
     let most = if n > 16 { most / 2 } else { most };
@@ -67,7 +69,7 @@ fn turns(dice: &mut Dice, n: u32) -> u32 {
     dice.to(most)
 }
 
-/// What the next generation of `n` workers is like.
+/// Random settings for the next generation of `n` workers.
 pub fn next_settings(dice: &mut Dice, n: u32) -> Settings {
     Settings {
         turns: turns(dice, n),

@@ -1,4 +1,4 @@
-//! What a generation did, as records for a checker of another make.
+//! What a generation did, as records that `scripts/stress_workers` judges.
 
 use crate::logs::AnswerLog;
 use crate::watches::Watch;
@@ -35,7 +35,7 @@ impl Text {
         Ok(())
     }
 
-    /// A record of its kind and some numbers.
+    /// Adds a record: its kind, and then numbers.
     pub fn row(&mut self, kind: &str, numbers: &[u64]) -> Result<()> {
         self.text.push_str(kind)?;
         for number in numbers {
@@ -59,7 +59,7 @@ impl Text {
         Ok(())
     }
 
-    /// The line, the replays and the certificate of a plan.
+    /// Adds the line, the replays and the certificate of a plan.
     pub fn plan(&mut self, plan: &Plan) -> Result<()> {
         let sweeps = plan.sweeps;
         write!(self.text, "line,{sweeps}")?;
@@ -82,7 +82,7 @@ impl Text {
         Ok(())
     }
 
-    /// What a worker remembers.
+    /// Adds what worker `p` kept of the answers to its calls.
     pub fn log(&mut self, p: usize, log: &AnswerLog) -> Result<()> {
         self.row(
             "log",
@@ -97,8 +97,8 @@ impl Text {
         )
     }
 
-    /// What the collector saw, how many of its lines are consistent in the gathered history, and
-    /// some plans that were made while the workers ran.
+    /// Adds what the collector took and planned, how many of its lines are consistent in the
+    /// gathered history, and some of its plans.
     pub fn watch(&mut self, watch: &Watch, gathered: &History) -> Result<()> {
         let planned = watch.lines.len() as u64;
         let kept = u64::from(watch.kept_in(gathered));
@@ -147,7 +147,7 @@ pub fn own_history(alloc: Global, collector: &Collector, posts: &Vec<Post>) -> R
     Ok(own)
 }
 
-/// Prints a history, with a record before it and one after it.
+/// Prints a history, with a record of this kind before it and `end` after it.
 pub fn print_history<R: Print>(rt: &R, alloc: Global, kind: &str, history: &History) -> Result<()> {
     println!(rt; "{kind}")?;
     let text = write_history(alloc, history)?;

@@ -1,4 +1,4 @@
-//! What the collector saw while the workers ran.
+//! What the collector took and planned while the workers ran.
 
 use crate::dice::Dice;
 use line_check::{check_certificate, check_consistent};
@@ -27,7 +27,7 @@ pub struct Watch {
     pub faults: u32,
 }
 
-/// The same choices in a line of its own.
+/// A copy of a line.
 fn same_line(line: &Line) -> Line {
     let mut same = Line::new();
     for choice in line.choices() {
@@ -38,14 +38,14 @@ fn same_line(line: &Line) -> Line {
     same
 }
 
-/// Whether the checker takes the plan.
+/// Whether the checker accepts a plan.
 pub fn is_right(history: &History, marks: &Marks, failed: &ProcSet, plan: &Plan) -> bool {
     check_consistent(history, &plan.line).is_ok()
         && check_certificate(history, marks, failed, &plan.line, &plan.certificate).is_ok()
 }
 
 impl Watch {
-    /// Nothing yet.
+    /// Nothing is taken or planned yet.
     pub fn new(alloc: Global) -> Watch {
         Watch {
             taken: 0,
@@ -55,13 +55,13 @@ impl Watch {
         }
     }
 
-    /// Something was not as it must be.
+    /// Counts something that is not as it must be.
     pub fn fault(&mut self) {
         self.faults = self.faults.wrapping_add(1);
     }
 
-    /// Keeps the line of a plan, and perhaps all of it: one of the first, or in the place of a
-    /// random one.
+    /// Keeps the line of a plan. The first plans are kept whole, and each later one takes the place
+    /// of a random one of these, or of none.
     fn keep(
         &mut self,
         alloc: Global,

@@ -15,7 +15,8 @@ use std::sync::OnceLock;
 use std::sync::atomic::{AtomicU32, Ordering};
 use std::thread::yield_now;
 
-/// How often the collector looks, and how often a worker looks whether all have started, at most.
+/// How often the collector takes reports at most, and how often a worker asks at most whether all
+/// have started.
 const LOOKS: u32 = 100_000_000;
 
 /// What the workers of a generation do, and what came of it.
@@ -25,14 +26,16 @@ pub struct RandomWork {
     pub seed: u64,
     pub n: u32,
     pub settings: Settings,
-    /// How many calls each worker makes; fewer for those that fail.
+    /// How many turns each worker takes; those that fail take fewer.
     pub turns: Vec<u32>,
     pub failed: ProcSet,
-    /// All processes, and the marks of damage that the generation opened with.
+    /// All processes: the collector plans as if each had failed.
     pub everyone: ProcSet,
+    /// The marks of damage that the generation opened with.
     pub marks: Marks,
-    /// How many workers have started, and how many have ended.
+    /// How many workers have started.
     pub started: AtomicU32,
+    /// How many workers have ended.
     pub ended: AtomicU32,
     pub logs: Vec<OnceLock<AnswerLog>>,
     pub watch: OnceLock<Watch>,
@@ -48,7 +51,7 @@ fn random_body(dice: &mut Dice, most: u32) -> Option<Body> {
     Body::try_new(bytes.get(..len)?).ok()
 }
 
-/// A state of random length and bytes, twice.
+/// A state of random length and bytes, and a copy of it.
 fn random_states(alloc: Global, dice: &mut Dice, most: u32) -> Option<(State, State)> {
     let mut bytes = Vec::new(alloc);
     let len = dice.below(most.min(4_096) + 1);
@@ -61,7 +64,7 @@ fn random_states(alloc: Global, dice: &mut Dice, most: u32) -> Option<(State, St
 }
 
 impl RandomWork {
-    /// The worker so many places after another, round in a circle.
+    /// The worker that comes `places` after worker `p`, where the first comes after the last.
     fn after(&self, p: u32, places: u32) -> Option<ProcId> {
         if self.n == 0 || self.n as usize > MOST_WORKERS {
             return None;
@@ -69,7 +72,7 @@ impl RandomWork {
         ProcId::try_new(p.wrapping_add(places) % self.n, self.n).ok()
     }
 
-    /// Sends to one of those that it sends to.
+    /// Sends a random message to a random worker within reach.
     fn send(&self, dice: &mut Dice, log: &mut AnswerLog, post: &mut Post)
         ensures { IsSamePost post.old post.new }
     {
@@ -98,7 +101,7 @@ impl RandomWork {
         }
     }
 
-    /// Receives from the worker so many places after another, if there is something.
+    /// Receives from the worker that comes `places` after worker `p`, if something has come.
     fn receive(&self, dice: &mut Dice, log: &mut AnswerLog, post: &mut Post, p: u32, places: u32)
         ensures { IsSamePost post.old post.new }
     {
@@ -125,7 +128,7 @@ impl RandomWork {
         }
     }
 
-    /// Receives from one of those that send to it.
+    /// Receives from a random one of the workers that send to this one.
     fn receive_one(&self, dice: &mut Dice, log: &mut AnswerLog, post: &mut Post)
         ensures { IsSamePost post.old post.new }
     {
@@ -143,7 +146,7 @@ impl RandomWork {
         }
     }
 
-    /// Takes a check.
+    /// Takes a check with a random state.
     fn check(&self, dice: &mut Dice, log: &mut AnswerLog, post: &mut Post)
         ensures { IsSamePost post.old post.new }
     {
@@ -156,7 +159,7 @@ impl RandomWork {
         }
     }
 
-    /// Begins a round, which the lead alone may, and it only where its last round is closed.
+    /// Begins a round. Only the lead may, and only once its last round is closed.
     fn begin(&self, dice: &mut Dice, log: &mut AnswerLog, post: &mut Post)
         ensures { IsSamePost post.old post.new }
     {
@@ -181,7 +184,7 @@ impl RandomWork {
         }
     }
 
-    /// Reports.
+    /// Reports what has not been reported.
     fn report(&self, log: &mut AnswerLog, post: &mut Post)
         ensures { IsSamePost post.old post.new }
     {
@@ -191,7 +194,7 @@ impl RandomWork {
         }
     }
 
-    /// One call, or what goes with it.
+    /// One turn: a random call, a sweep, or a yield.
     fn turn(&self, dice: &mut Dice, log: &mut AnswerLog, post: &mut Post)
         ensures { IsSamePost post.old post.new }
     {
@@ -228,7 +231,7 @@ impl RandomWork {
         yield_now();
     }
 
-    /// Waits until all workers have started, where they are to meet.
+    /// Counts this worker as started and, if the settings say so, waits until all have started.
     fn meet(&self) {
         self.started.fetch_add(1, Ordering::SeqCst);
         if !self.settings.meets {
@@ -242,7 +245,8 @@ impl RandomWork {
         }
     }
 
-    /// The collector takes reports, and plans as often as it should, mostly of new ones.
+    /// Takes reports, and plans as often as the settings say after new ones came, else once in a
+    /// hundred times.
     fn look(&self, dice: &mut Dice, watch: &mut Watch, collector: &mut Collector)
         ensures { HasCollectedMore collector.old collector.new }
     {

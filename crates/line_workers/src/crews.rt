@@ -12,15 +12,15 @@ use thiserror::Error;
 
 /// What workers and their collector do in their threads.
 ///
-/// Each call hands back what it was given. It may call it as often as it likes, and no call of a
-/// post or a collector gives it other rings, another number or another opening; that is all that is
-/// asked of it.
+/// Each function hands back the post or the collector that it was given. Before that it may make
+/// any calls of it, as often as it likes: none of them gives a post or a collector other rings,
+/// another number or another opening history, and no more than this is asked.
 pub trait Work: Sync {
-    /// What a worker does.
+    /// What a worker does with its post.
     fn work(&self, post: Post) -> Post
         ensures { IsSamePost post result };
 
-    /// What the collector does meanwhile.
+    /// What the collector does while the workers are at work.
     fn collect(&self, collector: Collector) -> Collector
         ensures { HasCollectedMore collector result };
 }
@@ -30,7 +30,7 @@ pub trait Work: Sync {
 #[error("a thread could not be started")]
 pub struct NoThread;
 
-/// The worker that comes back has the rings of the one that went.
+/// The promise that a post comes back from its thread with the rings that it went with.
 #[derive(Drop)]
 struct SamePost(Snapshot<Post>);
 
@@ -40,7 +40,7 @@ impl Promise<Post> for SamePost {
     ghost kept_by = { λ p r. IsSamePost p.0.value r };
 }
 
-/// The collector that comes back has the lines of the one that went.
+/// The promise that the collector comes back from its thread with the lines that it went with.
 #[derive(Drop)]
 struct SameCollector(Snapshot<Collector>);
 
@@ -50,7 +50,7 @@ impl Promise<Collector> for SameCollector {
     ghost kept_by = { λ p r. HasCollectedMore p.0.value r };
 }
 
-/// Starts a worker.
+/// Starts a worker in a thread.
 fn start<'s, E, W: Work>(
     scope: &'s Scope<'s, E>,
     work: &'s W,
@@ -65,8 +65,8 @@ fn start<'s, E, W: Work>(
     Ok(handle)
 }
 
-/// Starts the last worker, then the others, and then joins it. Its place in the list is kept for
-/// it.
+/// Starts the last worker of the list, has a call of itself start and join the others, and then
+/// joins the last one. The list keeps its room, so that to push the post back takes no memory.
 fn level<'s, E, W: Work, R: Threads>(
     rt: &R,
     scope: &'s Scope<'s, E>,
@@ -88,7 +88,7 @@ fn level<'s, E, W: Work, R: Threads>(
     Ok(all)
 }
 
-/// Starts the collector, then the workers, and joins all of them.
+/// Starts the collector, starts and joins the workers, and then joins the collector.
 fn all_at_once<'s, E, W: Work, R: Threads>(
     rt: &R,
     scope: &'s Scope<'s, E>,
@@ -108,7 +108,7 @@ fn all_at_once<'s, E, W: Work, R: Threads>(
     Ok((collector, back?))
 }
 
-/// All of them in a scope, which ends when all its threads have ended.
+/// Runs workers and collector in a scope of threads, which ends when all its threads have ended.
 fn in_scope<W: Work, R: Threads + Wait + Sync>(
     rt: &R,
     work: &W,
@@ -128,10 +128,11 @@ fn in_scope<W: Work, R: Threads + Wait + Sync>(
     )
 }
 
-/// All workers and the collector do their work at once, each in a thread of its own. They come back
-/// in the order in which they went, and are still of one generation.
+/// Has all workers and the collector do their work at once, each in a thread of its own. The posts
+/// come back in the order in which they went, and are still of one generation with the collector.
 ///
-/// Where a thread cannot be started, all are dropped once those that were started have ended.
+/// Where a thread cannot be started, posts and collector are dropped once the threads that were
+/// started have ended.
 pub fn run_crew<W: Work, R: Threads + Wait + Sync>(
     rt: &R,
     work: &W,

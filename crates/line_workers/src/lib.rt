@@ -1,10 +1,11 @@
 //! Workers in threads of their own: what a caller of `line_posts` writes, proved.
 //!
 //! A caller opens a generation by `fleet`, gives each post, and the collector, to a thread, joins
-//! the threads, and gathers. Between, each thread calls its own post as it likes. `gather` wants
-//! posts and collector of one generation; that they still are when they come back follows from
-//! what each thread promises of its own alone. `run_crew` does this for any `Work`, and `run` does
-//! all of it, from the fleet to the gathered history.
+//! the threads, and calls `gather`. Each thread may make any calls of its own post. `gather` asks
+//! for posts and a collector of one generation, and they still are when they come back: this
+//! follows from what each thread promises of its own post, or of the collector. `run_crew` starts
+//! and joins the threads for any `Work`, and `run` does all of it, from the fleet to the gathered
+//! history.
 #![tactic(auto)]
 
 mod crews;

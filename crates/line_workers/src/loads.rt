@@ -1,4 +1,4 @@
-//! Workers that send and receive as fast as they can, and the collector idle.
+//! Workers that send and receive as fast as they can, beside an idle collector.
 ghost use Rattle.std.specs.Prelude.{◌≤◌};
 ghost use Rattle.line_posts.specs.Collected.{HasCollectedMore};
 ghost use Rattle.line_posts.specs.Generations.{IsSamePost};
@@ -10,7 +10,8 @@ use line_tape::State;
 use std::alloc::Global;
 use std::thread::yield_now;
 
-/// Sends as soon as the ring has a free slot; false where it is refused for another reason.
+/// Sends as soon as the ring has a free slot. It answers `false` where the send is refused for any
+/// other reason.
 fn send_soon(post: &mut Post, to: ProcId, body: &Body) -> bool
     ensures { IsSamePost post.old post.new }
 {
@@ -26,7 +27,8 @@ fn send_soon(post: &mut Post, to: ProcId, body: &Body) -> bool
     false
 }
 
-/// Receives as soon as there is a message; false where it is refused for another reason.
+/// Receives as soon as something has come. It answers `false` where the receive is refused for any
+/// other reason.
 fn receive_soon(alloc: Global, post: &mut Post, from: ProcId) -> bool
     ensures { IsSamePost post.old post.new }
 {
@@ -42,7 +44,7 @@ fn receive_soon(alloc: Global, post: &mut Post, from: ProcId) -> bool
     false
 }
 
-/// Worker 0 sends so many messages to worker 1, which receives them.
+/// Worker 0 sends `count` messages to worker 1, which receives them.
 #[derive(Drop)]
 pub struct Stream {
     alloc: Global,
@@ -50,7 +52,7 @@ pub struct Stream {
 }
 
 impl Stream {
-    /// So many messages.
+    /// A stream of `count` messages.
     pub fn new(alloc: Global, count: u32) -> Stream {
         Stream { alloc, count }
     }
@@ -88,8 +90,8 @@ impl Work for Stream {
     }
 }
 
-/// In each of so many turns each worker sends a message to each other one, and then receives one of
-/// each.
+/// In each of `turns` turns each worker sends a message to each other one, and then receives one
+/// from each.
 #[derive(Drop)]
 pub struct Exchange {
     alloc: Global,
@@ -97,13 +99,13 @@ pub struct Exchange {
 }
 
 impl Exchange {
-    /// So many turns.
+    /// An exchange of `turns` turns.
     pub fn new(alloc: Global, turns: u32) -> Exchange {
         Exchange { alloc, turns }
     }
 }
 
-/// Sends a message to each other one of `n`; false where one was refused.
+/// Sends a message to each other one of `n` workers. It answers `false` where a send is refused.
 fn send_each(post: &mut Post, n: u32, body: &Body) -> bool
     requires { n ≤ MOST_WORKERS }
     ensures { IsSamePost post.old post.new }
@@ -121,7 +123,8 @@ fn send_each(post: &mut Post, n: u32, body: &Body) -> bool
     true
 }
 
-/// Receives a message of each other one of `n`; false where one was refused.
+/// Receives a message from each other one of `n` workers. It answers `false` where a receive is
+/// refused.
 fn receive_each(alloc: Global, post: &mut Post, n: u32) -> bool
     requires { n ≤ MOST_WORKERS }
     ensures { IsSamePost post.old post.new }

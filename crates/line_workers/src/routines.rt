@@ -1,4 +1,4 @@
-//! Workers that do the same few calls over and over.
+//! Workers that make the same few calls over and over.
 ghost use Rattle.line_posts.specs.Collected.{HasCollectedMore};
 ghost use Rattle.line_posts.specs.Generations.{IsSamePost};
 
@@ -9,8 +9,8 @@ use line_tape::State;
 use std::alloc::Global;
 use std::thread::yield_now;
 
-/// Each worker sends to the next one, receives from the one before it, takes a check and reports,
-/// so many times each; the collector takes reports meanwhile and plans.
+/// In each of `turns` turns a worker sends to the next one, receives from the one before it, takes
+/// a check and reports. Meanwhile the collector takes reports and plans, as many times.
 #[derive(Drop)]
 pub struct Routine {
     alloc: Global,
@@ -18,13 +18,13 @@ pub struct Routine {
 }
 
 impl Routine {
-    /// So many turns.
+    /// A routine of `turns` turns.
     pub fn new(alloc: Global, turns: u32) -> Routine {
         Routine { alloc, turns }
     }
 }
 
-/// The worker after this one and the one before it, round in a circle.
+/// The worker after this one and the one before it; the first comes after the last.
 fn neighbours(post: &Post) -> Option<(ProcId, ProcId)> {
     let n = post.n();
     if n == 0 || n > MOST_WORKERS {

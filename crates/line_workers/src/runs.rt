@@ -19,16 +19,16 @@ use std::sync::Wait;
 use std::thread::Threads;
 use thiserror::Error;
 
-/// Why a run came to no gathered history.
+/// Why a run has no gathered history.
 #[derive(Clone, Copy, Debug, PartialEq, Eq, Error)]
 pub enum RunError {
-    /// There is no fleet.
+    /// No fleet was opened.
     #[error(transparent)]
     Fleet(FleetError),
     /// A thread could not be started.
     #[error("a thread could not be started")]
     NoThread,
-    /// Nothing was gathered.
+    /// What the workers did was not gathered.
     #[error(transparent)]
     Gather(GatherWhy),
 }
@@ -55,7 +55,7 @@ impl From<NoThread> for RunError {
     }
 }
 
-/// Gathers what a generation did of which nobody failed.
+/// Gathers what a generation did in which no worker failed.
 fn gather_all(collector: Collector, posts: Vec<Post>) -> Result<Gathered, GatherWhy>
     requires generation { IsGeneration posts.items }
     requires lines { AreLined collector posts.items }
@@ -76,8 +76,8 @@ fn gather_all(collector: Collector, posts: Vec<Post>) -> Result<Gathered, Gather
     }
 }
 
-/// A generation of `n` workers with rings of this capacity: it is opened, all do their work, each
-/// in a thread of its own, and what they did is gathered, nobody having failed.
+/// Opens a generation of `n` workers over rings of this capacity, has each do its work in a thread
+/// of its own, and gathers what they did, no worker having failed.
 pub fn run<W: Work, R: Threads + Wait + Sync>(
     rt: &R,
     alloc: Global,
@@ -93,7 +93,7 @@ pub fn run<W: Work, R: Threads + Wait + Sync>(
     ensures marks { IfOk result (λ gathered. gathered.marks ≡ no_marks n) }
     ensures slots { IfOk result (λ gathered. gathered.capacity ≡ capacity) }
 
-    // The refusals: nothing but memory stops a gathering.
+    // The refusals. A gathering is refused only where it is out of memory.
     ensures bad_count { IsErrOf result (RunError.Fleet FleetError.BadCount)
         ↔ ((n ≡ 0) ⊎ (MOST_WORKERS < n)) }
     ensures bad_capacity { IsErrOf result (RunError.Fleet FleetError.BadCapacity)
