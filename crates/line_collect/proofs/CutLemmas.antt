@@ -1,11 +1,10 @@
--- A message that its sender's tape does not hold, and that it cannot send still, is not taken before the next recovery.
-use Rattle.std.proofs.Common.{◌≡◌, ◌≢◌, ℕ, zero, suc, ◌<◌, ◌-◌, Bool, true, false, cond, List, [], ◌∷◌, ◌++◌, length, get_or, Option, Some, None, refl, sym, ap, ◌∙◌, arith, inl, inr}
-use Rattle.std.specs.Prelude.{◌==◌}
+-- Which messages may be received before the next recovery: none that its sender's tape does not hold, and that it cannot send still.
+use Rattle.std.proofs.Common.{◌≡◌, ◌≢◌, ℕ, zero, suc, ◌<◌, ◌-◌, Bool, true, false, cond, List, [], ◌∷◌, ◌++◌, length, get_or, Option, Some, None, refl, sym, subst, ap, ◌∙◌, arith, inl, inr}
+use Rattle.std.specs.Prelude.{◌==◌, ◌⊎◌, Contains}
 use Rattle.std.specs.List.{cons_option}
 use Rattle.std.proofs.lemmas.Bool.{cases_eq, cases_lt, eq-eqb, eqb-true, ne_eqb, not-false}
-use Rattle.std.proofs.lemmas.List.{get_or_append_left, get_or-append_right}
+use Rattle.std.proofs.lemmas.List.{get_or_append_left, get_or-append_right, get_or_past}
 use Rattle.std.proofs.lemmas.List.Elements.{filter_map-append}
-use Rattle.std.proofs.lemmas.Option.{slice_get-get_or}
 use Rattle.line_fields.specs.Records.{Record}
 use Rattle.line_names.specs.declared.messages.MsgName.{MsgName}
 use Rattle.line_reports.specs.declared.reports.Report.{Report}
@@ -14,11 +13,13 @@ use Rattle.line_tape.specs.declared.events.Event.{Event}
 use Rattle.line_tape.specs.declared.events.Event.TheVariants.{Send, Recv, Check, Mark}
 use Rattle.line_tape.specs.Event.{Holds, incarnation_of, incarnations_sent}
 use Rattle.line_tape.specs.History.{Process, incarnation_at, process_at, tape_at}
+use Rattle.line_tape.proofs.CutLemmas.{cons_cases, contains_nothing}
 use Rattle.line_collect.specs.Answers.{AnswersReport, Given}
 use Rattle.line_collect.specs.Collections.{CollectionView}
-use Rattle.line_collect.specs.Orders.{TakesAll, event_by, events_by}
+use Rattle.line_collect.specs.Orders.{AnswersUntilRecovery, TakesAll, event_by, events_by}
 use Rattle.line_collect.specs.Refusals.{incarnation_to_send, is_misnamed, is_stale, is_tape_full, refusal_of_report}
-use Rattle.line_collect.proofs.OrderLemmas.{all_grown, report_grown, with_more, with_one}
+use Rattle.line_collect.proofs.EventLemmas.{to_send_agrees}
+use Rattle.line_collect.proofs.OrderLemmas.{all_grown, report_grown, taken_of, with_more, with_one}
 
 -- a cause that does not refuse does not hold, nor do those after it
 passed_over : (b : Bool) (code : ℕ) (rest : Option ℕ) → cond b (Some code) rest ≡ None → (b ≡ false) × (rest ≡ None)
@@ -29,10 +30,13 @@ passed_over false code rest unrefused = (refl, unrefused)
 of_present : (history : List Process) (p inc : ℕ) → is_stale history p inc ≡ false → inc ≡ incarnation_at history p
 of_present history p inc present = eqb-true inc (incarnation_at history p) (not-false (inc == incarnation_at history p) present)
 
--- no receipt, check or marker is a send
-no_send : (b : Bool) (event sent : Event) → (event ≡ sent → ⊥) → cond b (Some event) None ≡ Some sent → ⊥
-no_send true event sent apart same = apart (cc same)
-no_send false event sent apart same = cc same
+-- an event that a report tells is that one
+told_is : (b : Bool) (event told : Event) → cond b (Some event) None ≡ Some told → event ≡ told
+told_is true event told same = cc same
+told_is false event told same = absurd (cc same)
+
+no_other : (b : Bool) (event told : Event) → (event ≡ told → ⊥) → cond b (Some event) None ≡ Some told → ⊥
+no_other b event told apart same = apart (told_is b event told same)
 
 -- a send that is taken has the present incarnation of its process
 sent_now : (old : CollectionView) (report : Report) (p : ℕ) → refusal_of_report old report ≡ None → (to inc : ℕ) (body : List ℕ) → event_by p report ≡ Some (Send to inc body) → inc ≡ incarnation_at old.history p
@@ -46,9 +50,9 @@ sent_now old (reports.Send by own there bytes) p unrefused to inc body same = el
       let none : None ≡ Some (Send to inc body) = ap (λ b. cond b (Some (Send there own bytes)) None) (sym (ne_eqb by p apart)) ∙ same in
       absurd (cc none)
 ]
-sent_now old (reports.Receive by own message) p unrefused to inc body same = absurd (no_send (by == p) (Recv message) (Send to inc body) (λ e. cc e) same)
-sent_now old (reports.Check by own state round) p unrefused to inc body same = absurd (no_send (by == p) (Check state round) (Send to inc body) (λ e. cc e) same)
-sent_now old (reports.Mark by own sender round) p unrefused to inc body same = absurd (no_send (by == p) (Mark sender round) (Send to inc body) (λ e. cc e) same)
+sent_now old (reports.Receive by own message) p unrefused to inc body same = absurd (no_other (by == p) (Recv message) (Send to inc body) (λ e. cc e) same)
+sent_now old (reports.Check by own state round) p unrefused to inc body same = absurd (no_other (by == p) (Check state round) (Send to inc body) (λ e. cc e) same)
+sent_now old (reports.Mark by own sender round) p unrefused to inc body same = absurd (no_other (by == p) (Mark sender round) (Send to inc body) (λ e. cc e) same)
 sent_now old (reports.Damage by check) p unrefused to inc body same = absurd (cc same)
 sent_now old (reports.Bar by check) p unrefused to inc body same = absurd (cc same)
 sent_now old (reports.Plan failed) p unrefused to inc body same = absurd (cc same)
@@ -81,25 +85,73 @@ all_read old new (report ∷ others) p present (stays, (records, mid, answers, m
     one_reads present (event_by p report) (events_by p others) (λ to inc body same. sent_now old report p answers.0 to inc body same ∙ is)
     (all_read mid new others p present more (omega (arith, within, grown.count)) kept) k
 
-pub never_received : (old mid new : CollectionView) (these : List Report) (by inc : ℕ) (message : MsgName) (records : List Record) → message.from < length old.history
-    → (Holds (tape_at old.history message.from) message.inc message.number → ⊥) → message.inc ≢ incarnation_at old.history message.from
-    → TakesAll old these mid → AnswersReport mid (reports.Receive by inc message) (Given records) new → ⊥
-never_received old mid new these by inc message records within unheld apart takes answers =
-    let p : ℕ = message.from in
+-- under which incarnation a process sent a message of that number, or sends it, stays the same
+pub names_stay : (old new : CollectionView) (these : List Report) (p : ℕ) → TakesAll old these new → p < length old.history → (k : ℕ) → incarnation_to_send new.history p k ≡ incarnation_to_send old.history p k
+names_stay old new these p takes within k =
     let present : ℕ = incarnation_at old.history p in
     let before : List ℕ = incarnations_sent (tape_at old.history p) in
     let since : List ℕ = incarnations_sent (events_by p these) in
-    let stale = passed_over (is_stale mid.history by inc) 47 _ answers.0 in
-    let full = passed_over (is_tape_full mid.history by) 3 _ stale.1 in
-    let misnamed = passed_over (is_misnamed mid.history message) 38 _ full.1 in
-    let grown = all_grown old mid these takes in
-    let process_is : process_at mid.history p ≡ with_more (process_at old.history p) (events_by p these) = grown.each p within in
-    let named : message.inc ≡ incarnation_to_send mid.history p message.number = eqb-true message.inc (incarnation_to_send mid.history p message.number) (not-false (message.inc == incarnation_to_send mid.history p message.number) misnamed.0) in
-    let reads : incarnation_to_send mid.history p message.number ≡ get_or (before ++ since) message.number present =
-    ap (λ (process : Process). get_or (incarnations_sent process.tape) message.number process.incarnation) process_is
-    ∙ ap (λ (xs : List ℕ). get_or xs message.number present) (filter_map-append incarnation_of (tape_at old.history p) (events_by p these)) in
-    elim (cases_lt message.number (length before)) [
-      | inl early ↦ unheld (slice_get-get_or before message.number present early ∙ ap Some (sym (named ∙ reads ∙ get_or_append_left before since present message.number early)))
+    let grown = all_grown old new these takes in
+    let process_is : process_at new.history p ≡ with_more (process_at old.history p) (events_by p these) = grown.each p within in
+    let reads : incarnation_to_send new.history p k ≡ get_or (before ++ since) k present =
+    ap (λ (process : Process). get_or (incarnations_sent process.tape) k process.incarnation) process_is
+    ∙ ap (λ (xs : List ℕ). get_or xs k present) (filter_map-append incarnation_of (tape_at old.history p) (events_by p these)) in
+    elim (cases_lt k (length before)) [
+      | inl early ↦ reads ∙ get_or_append_left before since present k early
       | inr late ↦
-          apart (named ∙ reads ∙ get_or-append_right before since (length before) message.number present refl late ∙ all_read old mid these p present takes within refl (message.number - length before))
+          reads ∙ get_or-append_right before since (length before) k present refl late ∙ all_read old new these p present takes within refl (k - length before)
+          ∙ sym (get_or_past before k present late)
+    ]
+
+-- a message whose receipt is taken has the incarnation under which its sender sent it, or sends it
+named_so : (old new : CollectionView) (by inc : ℕ) (message : MsgName) (records : List Record) → AnswersReport old (reports.Receive by inc message) (Given records) new
+    → message.inc ≡ incarnation_to_send old.history message.from message.number
+named_so old new by inc message records answers =
+    let stale = passed_over (is_stale old.history by inc) 47 _ answers.0 in
+    let full = passed_over (is_tape_full old.history by) 3 _ stale.1 in
+    let misnamed = passed_over (is_misnamed old.history message) 38 _ full.1 in
+    eqb-true message.inc (incarnation_to_send old.history message.from message.number) (not-false (message.inc == incarnation_to_send old.history message.from message.number) misnamed.0)
+
+pub never_received : (old mid new : CollectionView) (these : List Report) (by inc : ℕ) (message : MsgName) (records : List Record) → message.from < length old.history
+    → (Holds (tape_at old.history message.from) message.inc message.number → ⊥) → message.inc ≢ incarnation_at old.history message.from
+    → AnswersUntilRecovery old these mid → AnswersReport mid (reports.Receive by inc message) (Given records) new → ⊥
+never_received old mid new these by inc message records within unheld apart answers last =
+    let taken = taken_of old mid these answers in
+    let named = named_so mid new by inc message records last ∙ names_stay old mid taken.0 message.from taken.1 within message.number in
+    elim (to_send_agrees old.history message named) [ inl held ↦ unheld held | inr later ↦ apart later.1 ]
+
+-- so has one whose receipt a report tells
+told_receipt : (old new : CollectionView) (report : Report) (records : List Record) (q : ℕ) (message : MsgName) → AnswersReport old report (Given records) new → event_by q report ≡ Some (Recv message)
+    → message.inc ≡ incarnation_to_send old.history message.from message.number
+told_receipt old new (reports.Send by own to body) records q message answers same = absurd (no_other (by == q) (Send to own body) (Recv message) (λ e. cc e) same)
+told_receipt old new (reports.Receive by own received) records q message answers same =
+    let told : Recv received ≡ Recv message = told_is (by == q) (Recv received) (Recv message) same in
+    let is : received ≡ message = cc told in
+    subst (λ (m : MsgName). m.inc ≡ incarnation_to_send old.history m.from m.number) is (named_so old new by own received records answers)
+told_receipt old new (reports.Check by own state round) records q message answers same = absurd (no_other (by == q) (Check state round) (Recv message) (λ e. cc e) same)
+told_receipt old new (reports.Mark by own sender round) records q message answers same = absurd (no_other (by == q) (Mark sender round) (Recv message) (λ e. cc e) same)
+told_receipt old new (reports.Damage by check) records q message answers same = absurd (cc same)
+told_receipt old new (reports.Bar by check) records q message answers same = absurd (cc same)
+told_receipt old new (reports.Plan failed) records q message answers same = absurd (cc same)
+told_receipt old new reports.Live records q message answers same = absurd (cc same)
+told_receipt old new (reports.Recover failed) records q message answers same = absurd (cc same)
+told_receipt old new reports.History records q message answers same = absurd (cc same)
+told_receipt old new (reports.Bundle failed) records q message answers same = absurd (cc same)
+told_receipt old new (reports.Refused code) records q message answers same = absurd (cc same)
+
+first_or_later : (one : Option Event) (more : List Event) (event : Event) → Contains (cons_option one more) event → (one ≡ Some event) ⊎ Contains more event
+first_or_later None more event c = inr c
+first_or_later (Some first) more event c = elim (cons_cases first more event c) [ inl same ↦ inl (ap Some same) | inr later ↦ inr later ]
+
+-- and one whose receipt one of several reports tells, as of before them
+pub receipts_named : (old new : CollectionView) (these : List Report) (q : ℕ) (message : MsgName) → TakesAll old these new → message.from < length old.history → Contains (events_by q these) (Recv message)
+    → message.inc ≡ incarnation_to_send old.history message.from message.number
+receipts_named old new [] q message takes within c = absurd (contains_nothing (Recv message) c)
+receipts_named old new (report ∷ others) q message (stays, (records, mid, answers, more)) within c =
+    let grown = report_grown old mid report records stays answers.1 in
+    elim (first_or_later (event_by q report) (events_by q others) (Recv message) c) [
+      | inl told ↦ told_receipt old mid report records q message answers told
+      | inr later ↦
+          receipts_named mid new others q message more (omega (arith, within, grown.count)) later
+          ∙ names_stay old mid (report ∷ []) message.from (stays, (records, mid, answers, refl)) within message.number
     ]

@@ -24,7 +24,7 @@ agreed_to_send history m (inl held) =
     same_Some _ _ (sym held ∙ slice_get-get_or sent m.number (incarnation_at history m.from) within)
 agreed_to_send history m (inr (past, is)) = is ∙ sym (get_or_past (incarnations_sent (tape_at history m.from)) m.number (incarnation_at history m.from) past)
 
-to_send_agrees : (history : List Process) (m : MsgName) → m.inc ≡ incarnation_to_send history m.from m.number → NameAgrees history m
+pub to_send_agrees : (history : List Process) (m : MsgName) → m.inc ≡ incarnation_to_send history m.from m.number → NameAgrees history m
 to_send_agrees history m is =
     let sent : List ℕ = incarnations_sent (tape_at history m.from) in
     elim (cases_lt m.number (length sent)) [

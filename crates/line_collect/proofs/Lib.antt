@@ -4,3 +4,4 @@ mod EventLemmas
 mod LawLemmas
 mod LiveLemmas
 mod OrderLemmas
+mod RecoveryLemmas

@@ -17,20 +17,23 @@ use Rattle.line_tape.specs.Views.{bar_at}
 use Rattle.line_tape.proofs.ChoiceLemmas.{survives_within}
 use Rattle.line_tape.proofs.LineLemmas.{tape_at-past}
 use Rattle.line_collect.specs.Collections.{CollectionView, IsPlanOf}
-use Rattle.line_collect.specs.Orders.{TakesAll, events_by}
-use Rattle.line_collect.proofs.OrderLemmas.{all_grown}
+use Rattle.line_collect.specs.Orders.{AnswersUntilRecovery, TakesAll, events_by}
+use Rattle.line_collect.proofs.OrderLemmas.{all_grown, taken_of}
 
 module _ (old new : CollectionView) (failed : List Bool) (plan : Plan) (these : List Report)
-    (all : IsEverybody (length old.history) failed) (is : IsPlanOf old failed plan) (takes : TakesAll old these new) where
+    (all : IsEverybody (length old.history) failed) (is : IsPlanOf old failed plan) (answers : AnswersUntilRecovery old these new) where
+  taken : (reported : List Report) × TakesAll old reported new
+  taken = taken_of old new these answers
+
   -- each choice of the line is a check, whose prefix further events do not change
   same_choice : (p : ℕ) (choice : Choice) → choice_at plan.line p ≡ choice → survives old.history old.marks failed p choice ≡ true
       → front (tape_at new.history p) choice ≡ front (tape_at old.history p) choice
   same_choice p (AtCheck c) e s =
-      let grown = all_grown old new these takes in
+      let grown = all_grown old new taken.0 taken.1 in
       elim (cases_lt p (length old.history)) [
         | inl within ↦
             ap (λ (process : Process). front process.tape (AtCheck c)) (grown.each p within)
-            ∙ front_more (tape_at old.history p) (events_by p these) c (survives_within old.history old.marks failed p c s)
+            ∙ front_more (tape_at old.history p) (events_by p taken.0) c (survives_within old.history old.marks failed p c s)
         | inr past ↦
             ap (λ t. front t (AtCheck c)) (tape_at-past new.history p (omega (arith, past, grown.count)) ∙ sym (tape_at-past old.history p past))
       ]

@@ -1,5 +1,5 @@
 -- What reports leave of a history, process by process.
-use Rattle.std.proofs.Common.{◌≡◌, ℕ, ◌<◌, cond, List, [], ◌∷◌, ◌++◌, append_assoc, append-nil, length, Option, Some, None, refl, sym, ap, ◌∙◌, arith, inl, inr}
+use Rattle.std.proofs.Common.{◌≡◌, ℕ, ◌<◌, cond, List, [], ◌∷◌, ◌++◌, append_assoc, append-nil, length, Option, Some, None, refl, sym, subst, ap, ◌∙◌, arith, inl, inr}
 use Rattle.std.specs.Prelude.{◌==◌}
 use Rattle.std.specs.List.{cons_option}
 use Rattle.std.proofs.lemmas.Bool.{cases_eq, eq-eqb, ne_eqb}
@@ -12,9 +12,9 @@ use Rattle.line_reports.specs.declared.reports.Report.TheVariants as reports
 use Rattle.line_tape.specs.declared.events.Event.{Event}
 use Rattle.line_tape.specs.declared.events.Event.TheVariants as events
 use Rattle.line_tape.specs.History.{Process, fresh, process_at, tape_at, with_event}
-use Rattle.line_collect.specs.Answers.{DoesAsReported}
+use Rattle.line_collect.specs.Answers.{DoesAsReported, Given, Refused}
 use Rattle.line_collect.specs.Collections.{CollectionView}
-use Rattle.line_collect.specs.Orders.{IsNoRecovery, TakesAll, event_by, events_by}
+use Rattle.line_collect.specs.Orders.{AnswersUntilRecovery, IsNoRecovery, TakesAll, event_by, events_by}
 
 -- a process with one more event, if there is one, and with more
 abbrev pub with_one : Process → Option Event → Process
@@ -104,3 +104,13 @@ same_histories old new later these others one two same =
     let in_old : p < length old.history = omega (arith, within, a.count) in
     let in_later : p < length later.history = omega (arith, in_old, b.count) in
     get_or_default new.history p d fresh within ∙ there p in_old ∙ sym (get_or_default later.history p d fresh in_later))
+
+-- those of the reports that are taken leave what all of them leave
+pub taken_of : (old new : CollectionView) (these : List Report) → AnswersUntilRecovery old these new → (taken : List Report) × TakesAll old taken new
+taken_of old new [] same = ([], same)
+taken_of old new (report ∷ others) (Refused code, mid, answers, none, more) =
+    let rest = taken_of mid new others more in
+    (rest.0, subst (λ (v : CollectionView). TakesAll v rest.0 new) answers.1 rest.1)
+taken_of old new (report ∷ others) (Given records, mid, answers, stays, more) =
+    let rest = taken_of mid new others more in
+    (report ∷ rest.0, (stays, (records, mid, answers, rest.1)))

@@ -3,5 +3,6 @@ pub mod Collecting
 pub mod Collections
 pub mod Laws
 pub mod Orders
+pub mod Recoveries
 pub mod Refusals
 pub mod Writing

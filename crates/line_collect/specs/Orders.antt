@@ -6,7 +6,7 @@ use Rattle.line_reports.specs.declared.reports.Report.{Report}
 use Rattle.line_reports.specs.declared.reports.Report.TheVariants as reports
 use Rattle.line_tape.specs.declared.events.Event.{Event}
 use Rattle.line_tape.specs.declared.events.Event.TheVariants as events
-use Rattle.line_collect.specs.Answers.{AnswersReport, Given}
+use Rattle.line_collect.specs.Answers.{AnswersReport, Given, Refused, ReportAnswer}
 use Rattle.line_collect.specs.Collections.{CollectionView}
 
 -- the event that a report tells of process p
@@ -34,3 +34,15 @@ TakesAll old [] new = new ≡ old
 TakesAll old (report ∷ others) new = IsNoRecovery report
     × ((records : List Record) × (mid : CollectionView)
     × AnswersReport old report (Given records) mid × TakesAll mid others new)
+
+-- the answer does no recovery
+abbrev pub DoesNoRecovery : Report → ReportAnswer → Type 0
+DoesNoRecovery report (Refused code) = Unit {0}
+DoesNoRecovery report (Given records) = IsNoRecovery report
+
+-- reports are answered one after another, each taken or refused, and no recovery is done
+abbrev pub AnswersUntilRecovery : CollectionView → List Report → CollectionView → Type 0
+AnswersUntilRecovery old [] new = new ≡ old
+AnswersUntilRecovery old (report ∷ others) new =
+    (answer : ReportAnswer) × (mid : CollectionView) × AnswersReport old report answer mid
+    × DoesNoRecovery report answer × AnswersUntilRecovery mid others new

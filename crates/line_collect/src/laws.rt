@@ -10,8 +10,9 @@ ghost use Rattle.line_fields.specs.Records.{Record};
 ghost use Rattle.line_collect.specs.Answers.{AnswersReport, Given, Refused};
 ghost use Rattle.line_collect.specs.Collecting.{CollectAnswer, Faulted, HearsReport, Replied};
 ghost use Rattle.line_collect.specs.Collecting.{collect_rules};
-ghost use Rattle.line_collect.specs.Collections.{CollectionView, IsPlanOf};
-ghost use Rattle.line_collect.specs.Orders.{TakesAll, events_by};
+ghost use Rattle.line_collect.specs.Collections.{CollectionView, IsPlanOf, gone_back};
+ghost use Rattle.line_collect.specs.Orders.{AnswersUntilRecovery, TakesAll, events_by};
+ghost use Rattle.line_collect.specs.Recoveries.{IsRecoveredLine};
 ghost use Rattle.line_plan.specs.declared.plans.Plan.{Plan};
 ghost use Rattle.line_names.specs.declared.messages.MsgName.{MsgName};
 ghost use Rattle.line_reports.specs.declared.reports.Report.{Report};
@@ -46,13 +47,13 @@ pub fn histories_follow_each_process()
         → ((p : ℕ) → events_by p these ≡ events_by p others) → new.history ≡ later.history }
 {}
 
-/// The line of `live` stays consistent in all that is reported until the next recovery. So no
-/// recovery to come needs what lies before it, unless a check of it is damaged or a process barred
-/// before it.
+/// The line of `live` stays consistent in all that is reported until the next recovery, taken or
+/// refused. So no recovery to come needs what lies before it, unless a check of it is damaged or a
+/// process barred before it.
 pub fn live_lines_stay_consistent()
     ensures { (old new : CollectionView) (failed : List Bool) (plan : Plan) (these : List Report)
         → IsEverybody (length old.history) failed → IsPlanOf old failed plan
-        → TakesAll old these new → IsConsistent new.history plan.line }
+        → AnswersUntilRecovery old these new → IsConsistent new.history plan.line }
 {}
 
 /// After a recovery no receipt of a message that was cut is taken: a message that its sender's tape
@@ -63,6 +64,18 @@ pub fn cut_messages_are_not_received()
         (message : MsgName) (records : List Record)
         → message.from < length old.history
         → (Holds (tape_at old.history message.from) message.inc message.number → ⊥)
-        → message.inc ≢ incarnation_at old.history message.from → TakesAll old these mid
+        → message.inc ≢ incarnation_at old.history message.from
+        → AnswersUntilRecovery old these mid
         → AnswersReport mid (Receive by inc message) (Given records) new → ⊥ }
+{}
+
+/// The line that a recovery planned stays consistent in all that is reported until the next one,
+/// taken or refused. What was left of each tape stands there as it stood, up to the check that its
+/// process went back to; each message received there was sent there; and a message that is received
+/// later was sent there too, or comes after it under the incarnation that its sender has since. So
+/// no report makes an orphan message of that line.
+pub fn recovered_lines_stay_consistent()
+    ensures { (old new : CollectionView) (failed : List Bool) (plan : Plan) (these : List Report)
+        → IsPlanOf old failed plan → AnswersUntilRecovery (gone_back old plan.line) these new
+        → IsRecoveredLine plan.line (gone_back old plan.line).history new.history }
 {}

@@ -14,7 +14,7 @@ pub use answerers::collect;
 pub use collections::Collection;
 pub use laws::{
     cut_messages_are_not_received, faults_and_refusals_change_nothing,
-    histories_follow_each_process, live_lines_stay_consistent,
+    histories_follow_each_process, live_lines_stay_consistent, recovered_lines_stay_consistent,
     reports_in_pieces_are_answered_alike,
 };
 pub use line_conversations::{MOST_LINE, Outcome, ServeError};
