@@ -13,9 +13,9 @@ use Rattle.line_devices.proofs.PutLemmas.{front_of_front}
 use Rattle.line_fields.specs.declared.faults.ReadError.TheVariants as read_errors
 use Rattle.line_fields.specs.Records.{Record}
 use Rattle.line_fields.specs.Texts.{records_text}
-use Rattle.line_reports.specs.declared.reports.Report.{Report}
-use Rattle.line_reports.specs.declared.reports.Report.TheVariants as reports
-use Rattle.line_reports.specs.Reports.{report_in}
+use Rattle.line_collect.specs.declared.reports.Report.{Report}
+use Rattle.line_collect.specs.declared.reports.Report.TheVariants as reports
+use Rattle.line_collect.specs.Reports.{report_in}
 use Rattle.line_collect.specs.Answers.{AnswersReport, Given, Refused, ReportAnswer, report_answer_records}
 use Rattle.line_collect.specs.Collecting.{Faulted, Replied, collect_rules, report_outcome}
 use Rattle.line_collect.specs.Collections.{CollectionView}

@@ -1,7 +1,10 @@
 mod AnswerLemmas
 mod CutLemmas
 mod EventLemmas
+mod FailedLemmas
 mod LawLemmas
 mod LiveLemmas
+mod NameLemmas
 mod OrderLemmas
+mod RangeLemmas
 mod RecoveryLemmas

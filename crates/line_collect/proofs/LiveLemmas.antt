@@ -8,7 +8,7 @@ use Rattle.line_names.specs.declared.choices.Choice.{Choice}
 use Rattle.line_names.specs.declared.choices.Choice.TheVariants.{Check as AtCheck, Now}
 use Rattle.line_names.specs.Lines.{choice_at}
 use Rattle.line_plan.specs.declared.plans.Plan.{Plan}
-use Rattle.line_reports.specs.declared.reports.Report.{Report}
+use Rattle.line_collect.specs.declared.reports.Report.{Report}
 use Rattle.line_tape.specs.Front.{front}
 use Rattle.line_tape.specs.History.{Process, tape_at}
 use Rattle.line_tape.specs.Line.{events_before, IsConsistent}

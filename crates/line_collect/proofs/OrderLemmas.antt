@@ -7,8 +7,8 @@ use Rattle.std.proofs.lemmas.List.{get_or_default, get_or-set_other, same_lists}
 use Rattle.line_catalogue.proofs.AgreementLemmas.{process-here}
 use Rattle.line_fields.specs.Records.{Record}
 use Rattle.line_moves.proofs.LinkLemmas.{length-with_event}
-use Rattle.line_reports.specs.declared.reports.Report.{Report}
-use Rattle.line_reports.specs.declared.reports.Report.TheVariants as reports
+use Rattle.line_collect.specs.declared.reports.Report.{Report}
+use Rattle.line_collect.specs.declared.reports.Report.TheVariants as reports
 use Rattle.line_tape.specs.declared.events.Event.{Event}
 use Rattle.line_tape.specs.declared.events.Event.TheVariants as events
 use Rattle.line_tape.specs.History.{Process, fresh, process_at, tape_at, with_event}

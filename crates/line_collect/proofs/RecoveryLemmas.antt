@@ -11,7 +11,7 @@ use Rattle.line_names.specs.declared.choices.Choice.TheVariants.{Check as AtChec
 use Rattle.line_names.specs.declared.messages.MsgName.{MsgName}
 use Rattle.line_names.specs.Lines.{choice_at}
 use Rattle.line_plan.specs.declared.plans.Plan.{Plan}
-use Rattle.line_reports.specs.declared.reports.Report.{Report}
+use Rattle.line_collect.specs.declared.reports.Report.{Report}
 use Rattle.line_tape.specs.declared.events.Event.{Event}
 use Rattle.line_tape.specs.declared.events.Event.TheVariants.{Recv}
 use Rattle.line_tape.specs.Event.{Holds, checks, incarnations_sent}

@@ -16,8 +16,8 @@ use Rattle.line_moves.specs.Restarts.{restored_state}
 use Rattle.line_names.specs.declared.choices.Choice.{Choice}
 use Rattle.line_names.specs.Lines.{choice_at}
 use Rattle.line_plan.specs.declared.plans.Plan.{Plan}
-use Rattle.line_reports.specs.declared.reports.Report.{Report}
-use Rattle.line_reports.specs.declared.reports.Report.TheVariants as reports
+use Rattle.line_collect.specs.declared.reports.Report.{Report}
+use Rattle.line_collect.specs.declared.reports.Report.TheVariants as reports
 use Rattle.line_tape.specs.declared.events.Event.TheVariants as events
 use Rattle.line_tape.specs.History.{Process, incarnation_at, tape_at}
 use Rattle.line_tape.specs.Restart.{restarted_incarnation}

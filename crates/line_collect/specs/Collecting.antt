@@ -7,8 +7,8 @@ use Rattle.line_fields.specs.declared.faults.Fault.{Fault}
 use Rattle.line_fields.specs.declared.faults.ReadError.{ReadError}
 use Rattle.line_fields.specs.Fields.{◌>>=◌, Fails}
 use Rattle.line_fields.specs.Records.{Record}
-use Rattle.line_reports.specs.declared.reports.Report.{Report}
-use Rattle.line_reports.specs.Reports.{report_in, reports_of}
+use Rattle.line_collect.specs.declared.reports.Report.{Report}
+use Rattle.line_collect.specs.Reports.{report_in, reports_of}
 use Rattle.line_collect.specs.Answers.{AnswersReport, Given, Refused, ReportAnswer}
 use Rattle.line_collect.specs.Answers.{report_answer_records}
 use Rattle.line_collect.specs.Collections.{CollectionView, nothing_collected}

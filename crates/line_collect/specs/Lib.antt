@@ -1,8 +1,13 @@
 pub mod Answers
 pub mod Collecting
 pub mod Collections
+pub mod Keeping
 pub mod Laws
+pub mod Names
 pub mod Orders
+pub mod Ranges
 pub mod Recoveries
 pub mod Refusals
+pub mod Reports
+pub mod Shown
 pub mod Writing

@@ -2,8 +2,8 @@
 use Rattle.std.specs.Prelude.{◌≡◌, ℕ, ◌==◌, if◌then◌else◌, List, [], ◌∷◌, Option, Some, None}
 use Rattle.std.specs.List.{filter_map}
 use Rattle.line_fields.specs.Records.{Record}
-use Rattle.line_reports.specs.declared.reports.Report.{Report}
-use Rattle.line_reports.specs.declared.reports.Report.TheVariants as reports
+use Rattle.line_collect.specs.declared.reports.Report.{Report}
+use Rattle.line_collect.specs.declared.reports.Report.TheVariants as reports
 use Rattle.line_tape.specs.declared.events.Event.{Event}
 use Rattle.line_tape.specs.declared.events.Event.TheVariants as events
 use Rattle.line_collect.specs.Answers.{AnswersReport, Given, Refused, ReportAnswer}

@@ -4,8 +4,8 @@ use Rattle.std.specs.Prelude.{◌∷◌, length, slice_index_or, Option, Some, N
 use Rattle.line_answers.specs.Answers.{IsEverybody}
 use Rattle.line_names.specs.declared.limits.TheConstants.{MOST_BODY}
 use Rattle.line_names.specs.declared.messages.MsgName.{MsgName}
-use Rattle.line_reports.specs.declared.reports.Report.{Report}
-use Rattle.line_reports.specs.declared.reports.Report.TheVariants as reports
+use Rattle.line_collect.specs.declared.reports.Report.{Report}
+use Rattle.line_collect.specs.declared.reports.Report.TheVariants as reports
 use Rattle.line_tape.specs.declared.limits.TheConstants.{MOST_EVENTS, MOST_STATE}
 use Rattle.line_tape.specs.Event.{checks, incarnations_sent}
 use Rattle.line_tape.specs.History.{Process, incarnation_at, tape_at}

@@ -8,7 +8,7 @@ use Rattle.line_devices.specs.declared.devices.DeviceFault.{DeviceFault}
 use Rattle.line_devices.specs.Devices.{PutsButEnd, PutsFront, one_more}
 use Rattle.line_fields.specs.declared.faults.ReadError.TheVariants as read_errors
 use Rattle.line_fields.specs.Texts.{records_text}
-use Rattle.line_reports.specs.declared.reports.Report.{Report}
+use Rattle.line_collect.specs.declared.reports.Report.{Report}
 use Rattle.line_tape.specs.declared.events.Event.{Event}
 use Rattle.line_tape.specs.declared.events.Event.TheVariants as events
 use Rattle.line_tape.specs.declared.limits.TheConstants.{MOST_STATE}

@@ -11,10 +11,11 @@ ghost use Rattle.line_collect.specs.Collecting.{Began, Faulted, HearsReport, col
 
 use crate::answering::answer_report;
 use crate::collections::Collection;
+use crate::readers::ReportReader;
+use crate::reports::reports_of;
 use line_conversations::{Answerer, Outcome, ServeError, Stop, converse};
 use line_devices::{Sink, Source};
 use line_fields::{FieldRow, ReadError, RecordWriter};
-use line_reports::{ReportReader, reports_of};
 use line_tape::CountError;
 use std::alloc::Global;
 use std::marker::Model;

@@ -8,21 +8,21 @@ ghost use Rattle.line_collect.specs.Writing.{DoesReport, outcome_if_written};
 ghost use Rattle.line_devices.specs.Devices.{Outputs};
 ghost use Rattle.line_fields.specs.Texts.{record_text};
 ghost use Rattle.line_names.specs.declared.limits.TheConstants.{MOST_PROCESSES};
-ghost use Rattle.line_reports.specs.declared.reports.Report.{Report};
-ghost use Rattle.line_reports.specs.declared.reports.Report.TheVariants as reports;
-ghost use Rattle.line_reports.specs.Ranges.{IsReportInRange};
-ghost use Rattle.line_reports.specs.Shown.{report_of_ref};
+ghost use Rattle.line_collect.specs.declared.reports.Report.{Report};
+ghost use Rattle.line_collect.specs.declared.reports.Report.TheVariants as reports;
+ghost use Rattle.line_collect.specs.Ranges.{IsReportInRange};
+ghost use Rattle.line_collect.specs.Shown.{report_of_ref};
 
 use crate::collections::Collection;
 use crate::plan_records::put_plan_records;
 use crate::refusals::{CollectError, report_refusal_name};
+use crate::reports::ReportRef;
 use crate::tellings::Told;
 use line_claims::{earliest_version, numbers_of, put_check_text, put_history};
 use line_conversations::{Outcome, Stop};
 use line_devices::{DeviceFault, Sink};
 use line_fields::{Field, ReadError, RecordWriter, put_ending, put_numbers};
 use line_names::{MOST_PROCESSES, ProcId, ProcSet};
-use line_reports::ReportRef;
 use std::alloc::Global;
 
 /// The outcome of an answer, if all of it was written.

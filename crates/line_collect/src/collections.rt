@@ -3,7 +3,7 @@
 ghost use Rattle.std.specs.Prelude.{◌≡◌, ◌≢◌, ◌<◌, ◌↔◌, ◌⊎◌, IfErr, IfOk, IsErrOf, IsTrue, OnErr};
 ghost use Rattle.std.specs.Prelude.{OnOk, None, Some, false, length};
 ghost use Rattle.line_names.specs.declared.limits.TheConstants.{MOST_PROCESSES};
-ghost use Rattle.line_reports.specs.declared.reports.Report.TheVariants as reports;
+ghost use Rattle.line_collect.specs.declared.reports.Report.TheVariants as reports;
 ghost use Rattle.line_tape.specs.Event.{NamesBelow};
 ghost use Rattle.line_tape.specs.History.{with_event};
 ghost use Rattle.line_tape.specs.Line.{IsConsistent, IsLine};

@@ -15,8 +15,8 @@ ghost use Rattle.line_collect.specs.Orders.{AnswersUntilRecovery, TakesAll, even
 ghost use Rattle.line_collect.specs.Recoveries.{IsRecoveredLine};
 ghost use Rattle.line_plan.specs.declared.plans.Plan.{Plan};
 ghost use Rattle.line_names.specs.declared.messages.MsgName.{MsgName};
-ghost use Rattle.line_reports.specs.declared.reports.Report.{Report};
-ghost use Rattle.line_reports.specs.declared.reports.Report.TheVariants.{Receive};
+ghost use Rattle.line_collect.specs.declared.reports.Report.{Report};
+ghost use Rattle.line_collect.specs.declared.reports.Report.TheVariants.{Receive};
 ghost use Rattle.line_tape.specs.Event.{Holds};
 ghost use Rattle.line_tape.specs.History.{incarnation_at, tape_at};
 ghost use Rattle.line_tape.specs.Line.{IsConsistent};

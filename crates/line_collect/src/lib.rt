@@ -5,9 +5,15 @@
 mod answerers;
 mod answering;
 mod collections;
+mod keeping;
+mod kinds;
 mod laws;
+mod names;
+mod numbers;
 mod plan_records;
+mod readers;
 mod refusals;
+mod reports;
 mod tellings;
 
 pub use answerers::collect;
@@ -18,5 +24,7 @@ pub use laws::{
     reports_in_pieces_are_answered_alike,
 };
 pub use line_conversations::{MOST_LINE, Outcome, ServeError};
+pub use readers::ReportReader;
 pub use refusals::CollectError;
+pub use reports::{Report, ReportRef, reports_of};
 pub use tellings::Told;

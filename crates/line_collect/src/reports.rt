@@ -3,8 +3,8 @@
 ghost use Rattle.std.specs.Prelude.{◌≡◌, ◌≤◌, IfOk};
 ghost use Rattle.line_names.specs.declared.limits.TheConstants.{MOST_PROCESSES};
 ghost use Rattle.line_fields.specs.Fields.{Gives};
-ghost use Rattle.line_reports.specs.Keeping.{report_with_bytes};
-ghost use Rattle.line_reports.specs.Reports as spec;
+ghost use Rattle.line_collect.specs.Keeping.{report_with_bytes};
+ghost use Rattle.line_collect.specs.Reports as spec;
 
 use crate::keeping::KeptReport;
 use crate::kinds::{

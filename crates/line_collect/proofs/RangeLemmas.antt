@@ -18,10 +18,10 @@ use Rattle.line_fields.specs.Records.{Record, field}
 use Rattle.line_fields.specs.Shapes.{Reader, alone, two, four, five}
 use Rattle.line_claims.specs.Numbers.{incarnation, none_text, numbers, plain, round, round_or_none}
 use Rattle.line_claims.specs.Ranges.{IsRoundNumber}
-use Rattle.line_reports.specs.declared.reports.Report.{Report}
-use Rattle.line_reports.specs.declared.reports.Report.TheVariants.{Send, Receive, Check, Mark, Damage, Bar, Plan, Live, Recover, History, Bundle, Refused}
-use Rattle.line_reports.specs.Ranges.{AreMembersBelow, IsReportInRange}
-use Rattle.line_reports.specs.Reports.{report_among, report_in, send_report, receive_report, check_report, mark_report, report_of_check, report_of_failed}
+use Rattle.line_collect.specs.declared.reports.Report.{Report}
+use Rattle.line_collect.specs.declared.reports.Report.TheVariants.{Send, Receive, Check, Mark, Damage, Bar, Plan, Live, Recover, History, Bundle, Refused}
+use Rattle.line_collect.specs.Ranges.{AreMembersBelow, IsReportInRange}
+use Rattle.line_collect.specs.Reports.{report_among, report_in, send_report, receive_report, check_report, mark_report, report_of_check, report_of_failed}
 
 -- what comes next holds, where what is read before it is there
 after : {A B : Type 0} (P : B → Type 0) (a : Result A Fault) (next : A → Result B Fault) → ((x : A) → a ≡ Ok x → IfOk (next x) P) → IfOk (a >>= next) P

@@ -1,8 +1,8 @@
 //! A report that is kept, beside the bytes that it carries.
 
 ghost use Rattle.std.specs.Prelude.{◌≡◌};
-ghost use Rattle.line_reports.specs.Keeping.{report_with_bytes};
-ghost use Rattle.line_reports.specs.Shown.{report_of_ref};
+ghost use Rattle.line_collect.specs.Keeping.{report_with_bytes};
+ghost use Rattle.line_collect.specs.Shown.{report_of_ref};
 
 use crate::reports::ReportRef;
 use line_names::{MsgName, ProcId, ProcSet};

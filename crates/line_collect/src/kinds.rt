@@ -6,9 +6,9 @@ ghost use Rattle.line_fields.specs.declared.faults.Fault.TheVariants as faults;
 ghost use Rattle.line_fields.specs.Faults.{code_of};
 ghost use Rattle.line_fields.specs.Fields.{Gives};
 ghost use Rattle.line_fields.specs.Shapes.{alone};
-ghost use Rattle.line_reports.specs.declared.reports.Report.{Report};
-ghost use Rattle.line_reports.specs.Keeping.{of_some_or_refused, report_with_bytes};
-ghost use Rattle.line_reports.specs.Reports as spec;
+ghost use Rattle.line_collect.specs.declared.reports.Report.{Report};
+ghost use Rattle.line_collect.specs.Keeping.{of_some_or_refused, report_with_bytes};
+ghost use Rattle.line_collect.specs.Reports as spec;
 
 use crate::keeping::KeptReport;
 use crate::numbers::{incarnation_in, round_in, round_or_none_in};

@@ -1,6 +1,6 @@
 use Rattle.std.proofs.Common.{◌∙◌, sym}
-use Rattle.line_reports.proofs.FailedLemmas.{failed_found, failed_not_read, failed_refused}
-use Rattle.line_reports.proofs.kinds.failed_or_none.Goals as goal
+use Rattle.line_collect.proofs.FailedLemmas.{failed_found, failed_not_read, failed_refused}
+use Rattle.line_collect.proofs.kinds.failed_or_none.Goals as goal
 
 pub returns-in-Ok : goal.returns-in-Ok
 returns-in-Ok c report = failed_found report c.args.n c.args.row.now c.in-Ok.failed (sym c.failed_of.ensures ∙ c.in-Ok.is)

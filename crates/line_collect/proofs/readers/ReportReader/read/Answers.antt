@@ -1,12 +1,12 @@
 use Rattle.std.proofs.Common.{Result, subst}
 use Rattle.line_fields.specs.declared.faults.ReadError.{ReadError}
 use Rattle.line_fields.specs.Fields.{Gives}
-use Rattle.line_reports.specs.declared.keeping.KeptReport.{KeptReport}
-use Rattle.line_reports.specs.declared.reports.Report.{Report}
-use Rattle.line_reports.specs.Keeping.{report_with_bytes}
-use Rattle.line_reports.specs.Reports.{report_in}
-use Rattle.line_reports.proofs.RangeLemmas.{spelled_within}
-use Rattle.line_reports.proofs.readers.ReportReader.read.Goals as goal
+use Rattle.line_collect.specs.declared.keeping.KeptReport.{KeptReport}
+use Rattle.line_collect.specs.declared.reports.Report.{Report}
+use Rattle.line_collect.specs.Keeping.{report_with_bytes}
+use Rattle.line_collect.specs.Reports.{report_in}
+use Rattle.line_collect.proofs.RangeLemmas.{spelled_within}
+use Rattle.line_collect.proofs.readers.ReportReader.read.Goals as goal
 
 pub returns-in-Ok-clause-range : goal.returns-in-Ok-clause-range
 returns-in-Ok-clause-range c =

@@ -1,8 +1,8 @@
 //! The names of reports, which the first fields of records spell.
 
 ghost use Rattle.std.specs.Prelude.{◌≡◌, ◌≢◌, IfNone, IfSome};
-ghost use Rattle.line_reports.specs.declared.names.ReportName.{ReportName};
-ghost use Rattle.line_reports.specs.Names.{report_name_text};
+ghost use Rattle.line_collect.specs.declared.names.ReportName.{ReportName};
+ghost use Rattle.line_collect.specs.Names.{report_name_text};
 
 /// The name of a report.
 #[derive(Clone, Copy)]

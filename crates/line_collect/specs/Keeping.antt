@@ -3,12 +3,12 @@
 use Rattle.std.specs.Prelude.{ℕ, List, Option, Some, None}
 use Rattle.line_fields.specs.declared.faults.Fault.TheVariants as faults
 use Rattle.line_fields.specs.Faults.{code_of}
-use Rattle.line_reports.specs.declared.keeping.KeptReport.{KeptReport}
-use Rattle.line_reports.specs.declared.keeping.KeptReport.TheVariants as kepts
-use Rattle.line_reports.specs.declared.reports.Report.{Report}
-use Rattle.line_reports.specs.declared.reports.Report.TheVariants.{Send, Receive, Check, Mark}
-use Rattle.line_reports.specs.declared.reports.Report.TheVariants.{Damage, Bar, Plan, Live, Recover}
-use Rattle.line_reports.specs.declared.reports.Report.TheVariants.{History, Bundle, Refused}
+use Rattle.line_collect.specs.declared.keeping.KeptReport.{KeptReport}
+use Rattle.line_collect.specs.declared.keeping.KeptReport.TheVariants as kepts
+use Rattle.line_collect.specs.declared.reports.Report.{Report}
+use Rattle.line_collect.specs.declared.reports.Report.TheVariants.{Send, Receive, Check, Mark}
+use Rattle.line_collect.specs.declared.reports.Report.TheVariants.{Damage, Bar, Plan, Live, Recover}
+use Rattle.line_collect.specs.declared.reports.Report.TheVariants.{History, Bundle, Refused}
 
 -- the report of what a record says of processes, if there are such
 abbrev pub of_some_or_refused : {A : Type 0} → (A → Report) → Option A → Report

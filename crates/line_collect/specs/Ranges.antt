@@ -4,10 +4,10 @@ use Rattle.line_names.specs.Sets.{is_member}
 use Rattle.line_fields.specs.declared.faults.Fault.TheVariants as faults
 use Rattle.line_fields.specs.Faults.{code_of}
 use Rattle.line_claims.specs.Ranges.{IsRoundNumber}
-use Rattle.line_reports.specs.declared.reports.Report.{Report}
-use Rattle.line_reports.specs.declared.reports.Report.TheVariants.{Send, Receive, Check, Mark}
-use Rattle.line_reports.specs.declared.reports.Report.TheVariants.{Damage, Bar, Plan, Live, Recover}
-use Rattle.line_reports.specs.declared.reports.Report.TheVariants.{History, Bundle, Refused}
+use Rattle.line_collect.specs.declared.reports.Report.{Report}
+use Rattle.line_collect.specs.declared.reports.Report.TheVariants.{Send, Receive, Check, Mark}
+use Rattle.line_collect.specs.declared.reports.Report.TheVariants.{Damage, Bar, Plan, Live, Recover}
+use Rattle.line_collect.specs.declared.reports.Report.TheVariants.{History, Bundle, Refused}
 
 -- all of these processes are below n
 abbrev pub AreMembersBelow : ℕ → List Bool → Type 0

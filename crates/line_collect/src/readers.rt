@@ -3,9 +3,9 @@
 ghost use Rattle.std.specs.Prelude.{◌≡◌, ◌≤◌, OnOk};
 ghost use Rattle.line_fields.specs.Fields.{Gives};
 ghost use Rattle.line_names.specs.declared.limits.TheConstants.{MOST_PROCESSES};
-ghost use Rattle.line_reports.specs.Ranges.{IsReportInRange};
-ghost use Rattle.line_reports.specs.Reports as spec;
-ghost use Rattle.line_reports.specs.Shown.{report_of_ref};
+ghost use Rattle.line_collect.specs.Ranges.{IsReportInRange};
+ghost use Rattle.line_collect.specs.Reports as spec;
+ghost use Rattle.line_collect.specs.Shown.{report_of_ref};
 
 use crate::keeping::{KeptReport, report_lent};
 use crate::reports::{Report, ReportRef, report_in};
@@ -24,8 +24,8 @@ pub struct ReportReader {
 }
 
 impl Model for ReportReader {
-    ghost use Rattle.line_reports.specs.declared.reports.Report.{Report};
-    ghost use Rattle.line_reports.specs.Keeping.{report_with_bytes};
+    ghost use Rattle.line_collect.specs.declared.reports.Report.{Report};
+    ghost use Rattle.line_collect.specs.Keeping.{report_with_bytes};
 
     ghost Value = { Report };
 

@@ -5,10 +5,10 @@ use Rattle.std.proofs.lemmas.Bool.{cases_Bool}
 use Rattle.std.proofs.lemmas.Slice.Eq.{bytes_eq-Decides}
 use Rattle.line_fields.specs.declared.faults.Fault.TheVariants as faults
 use Rattle.line_fields.specs.Records.{Record, field}
-use Rattle.line_reports.specs.declared.names.ReportName.{ReportName}
-use Rattle.line_reports.specs.declared.names.ReportName.TheVariants as names
-use Rattle.line_reports.specs.Names.{report_name_text}
-use Rattle.line_reports.specs.Reports.{report_in}
+use Rattle.line_collect.specs.declared.names.ReportName.{ReportName}
+use Rattle.line_collect.specs.declared.names.ReportName.TheVariants as names
+use Rattle.line_collect.specs.Names.{report_name_text}
+use Rattle.line_collect.specs.Reports.{report_in}
 
 other_text : (xs ys : List ℕ) → xs ≢ ys → bytes_eq xs ys ≡ false
 other_text xs ys other = elim (cases_Bool (bytes_eq xs ys)) [ inl e ↦ absurd (other ((bytes_eq-Decides xs ys).0 e)) | inr e ↦ e ]

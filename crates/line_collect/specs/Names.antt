@@ -1,7 +1,7 @@
 -- The names of reports, which the first fields of records spell.
 use Rattle.std.specs.Prelude.{ℕ, List, codes}
-use Rattle.line_reports.specs.declared.names.ReportName.{ReportName}
-use Rattle.line_reports.specs.declared.names.ReportName.TheVariants as names
+use Rattle.line_collect.specs.declared.names.ReportName.{ReportName}
+use Rattle.line_collect.specs.declared.names.ReportName.TheVariants as names
 
 -- the text of a report's name
 abbrev pub report_name_text : ReportName → List ℕ

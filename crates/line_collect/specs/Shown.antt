@@ -1,10 +1,10 @@
 -- The report with what it carries lent.
-use Rattle.line_reports.specs.declared.reports.Report.{Report}
-use Rattle.line_reports.specs.declared.reports.Report.TheVariants.{Send, Receive, Check, Mark}
-use Rattle.line_reports.specs.declared.reports.Report.TheVariants.{Damage, Bar, Plan, Live, Recover}
-use Rattle.line_reports.specs.declared.reports.Report.TheVariants.{History, Bundle, Refused}
-use Rattle.line_reports.specs.declared.reports.ReportRef.{ReportRef}
-use Rattle.line_reports.specs.declared.reports.ReportRef.TheVariants as lent
+use Rattle.line_collect.specs.declared.reports.Report.{Report}
+use Rattle.line_collect.specs.declared.reports.Report.TheVariants.{Send, Receive, Check, Mark}
+use Rattle.line_collect.specs.declared.reports.Report.TheVariants.{Damage, Bar, Plan, Live, Recover}
+use Rattle.line_collect.specs.declared.reports.Report.TheVariants.{History, Bundle, Refused}
+use Rattle.line_collect.specs.declared.reports.ReportRef.{ReportRef}
+use Rattle.line_collect.specs.declared.reports.ReportRef.TheVariants as lent
 
 -- the report that is lent so
 abbrev pub report_of_ref : ReportRef → Report

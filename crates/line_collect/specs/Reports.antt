@@ -13,10 +13,10 @@ use Rattle.line_fields.specs.Shapes.{alone, two, four, five}
 use Rattle.line_claims.specs.declared.versions.TheConstants.{LAST_VERSION}
 use Rattle.line_claims.specs.Numbers.{incarnation, numbers, plain, round, round_or_none}
 use Rattle.line_claims.specs.Versions.{most_in}
-use Rattle.line_reports.specs.declared.reports.Report.{Report}
-use Rattle.line_reports.specs.declared.reports.Report.TheVariants.{Send, Receive, Check, Mark}
-use Rattle.line_reports.specs.declared.reports.Report.TheVariants.{Damage, Bar, Plan, Live, Recover}
-use Rattle.line_reports.specs.declared.reports.Report.TheVariants.{History, Bundle, Refused}
+use Rattle.line_collect.specs.declared.reports.Report.{Report}
+use Rattle.line_collect.specs.declared.reports.Report.TheVariants.{Send, Receive, Check, Mark}
+use Rattle.line_collect.specs.declared.reports.Report.TheVariants.{Damage, Bar, Plan, Live, Recover}
+use Rattle.line_collect.specs.declared.reports.Report.TheVariants.{History, Bundle, Refused}
 
 -- reports,V,N: the number of processes, as many as version V has room for
 unfoldable pub reports_of : Record → Result ℕ Fault

@@ -11,9 +11,9 @@ use Rattle.line_fields.specs.Fields.{◌>>=◌, num, want}
 use Rattle.line_fields.specs.Records.{Record}
 use Rattle.line_claims.specs.Entries.{failed_of}
 use Rattle.line_claims.specs.Numbers.{numbers, plain}
-use Rattle.line_reports.specs.declared.reports.Report.{Report}
-use Rattle.line_reports.specs.declared.reports.Report.TheVariants.{Refused}
-use Rattle.line_reports.specs.Reports.{report_among, report_of_failed}
+use Rattle.line_collect.specs.declared.reports.Report.{Report}
+use Rattle.line_collect.specs.declared.reports.Report.TheVariants.{Refused}
+use Rattle.line_collect.specs.Reports.{report_among, report_of_failed}
 
 -- a field is no number, and nothing else is wrong with it
 abbrev OnlyBadNumber : {A : Type 0} → Result A Fault → Type 0

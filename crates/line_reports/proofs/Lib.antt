@@ -1,3 +1,0 @@
-pub mod FailedLemmas
-pub mod NameLemmas
-pub mod RangeLemmas
