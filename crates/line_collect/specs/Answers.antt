@@ -136,9 +136,11 @@ AnswersReport old report (Refused code) new = IsRefusedBy old report code × (ne
 AnswersReport old report (Given records) new =
     (refusal_of_report old report ≡ None) × DoesAsReported old report records new
 
--- a call took a report, or did not since it is refused or memory is out, and then nothing changed
+-- a call took a report; or did not, since it is refused, or since memory is out and nothing refuses
+-- it, and then nothing changed
 abbrev pub TakesReport : CollectionView → Report → Result Told CollectError → CollectionView
     → Type 0
 TakesReport old report (Ok told) new = AnswersReport old report (Given (told_record told ∷ [])) new
 TakesReport old report (Err error) new =
     (new ≡ old) × (error ≢ OutOfMemory → IsRefusedBy old report (report_error_code error))
+    × (error ≡ OutOfMemory → refusal_of_report old report ≡ None)

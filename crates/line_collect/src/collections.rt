@@ -21,7 +21,7 @@ use crate::tellings::Told;
 use line_catalogue::{AddError, Catalogue, DamageError};
 use line_names::{Body, MOST_PROCESSES, MsgName, ProcId, ProcSet};
 use line_plan::{Plan, PlanError};
-use line_tape::{BarError, CountError, Event, History, MOST_STATE, Marks, State};
+use line_tape::{BarError, CountError, Event, History, MOST_EVENTS, MOST_STATE, Marks, State};
 use std::alloc::Global;
 use std::marker::Model;
 
@@ -58,6 +58,8 @@ fn add_event(catalogue: &mut Catalogue, by: ProcId, event: Event) -> Result<(), 
     ensures unrefused { OnOk result (refusal_of_event catalogue.old.processes by event ≡ None) }
     ensures refused { IfErr result (λ error. error ≢ CollectError.OutOfMemory
         → refusal_of_event catalogue.old.processes by event ≡ Some (report_error_code error)) }
+    ensures memory { IfErr result (λ error. error ≡ CollectError.OutOfMemory
+        → refusal_of_event catalogue.old.processes by event ≡ None) }
 {
     let _history = catalogue.history();
     match catalogue.add(by, event) {
@@ -170,7 +172,11 @@ impl Collection {
         if state.len() > MOST_STATE {
             return Err(CollectError::StateTooLong);
         }
-        let check = self.catalogue.history().tape(by).checks() + 1;
+        let tape = self.catalogue.history().tape(by);
+        if tape.len() as usize == MOST_EVENTS {
+            return Err(CollectError::TapeFull);
+        }
+        let check = tape.checks() + 1;
         let state = State::of(Vec::from_slice(alloc, state)?);
         add_event(&mut self.catalogue, by, Event::Check { state, round })?;
         Ok(Told::Checked { at: by, check })
