@@ -106,3 +106,13 @@ pub use Rattle.line_conversations.specs.Lines as ServiceLines
 pub use Rattle.line_conversations.specs.Rules
 pub use Rattle.line_conversations.specs.Turns
 pub use Rattle.line_service.specs.Services
+-- Reports that are collected.
+pub use Rattle.line_collect.specs.declared.reports.Report
+pub use Rattle.line_collect.specs.declared.tellings.Told
+pub use Rattle.line_collect.specs.Answers as ReportAnswers
+pub use Rattle.line_collect.specs.Collecting
+pub use Rattle.line_collect.specs.Collections
+pub use Rattle.line_collect.specs.Orders as ReportOrders
+pub use Rattle.line_collect.specs.Recoveries
+pub use Rattle.line_collect.specs.Refusals as ReportRefusals
+pub use Rattle.line_collect.specs.Reports as ReportRecords

@@ -111,3 +111,18 @@ pub mod service {
         scripts_are_served_as_they_run, serve, serve_turn,
     };
 }
+
+/// Collect what processes report of themselves, those of several in any order, and plan from what
+/// has come so far. No process waits for it.
+///
+/// Begin with `collect` over a `Source` and a `Sink` of `text`; or with `Collection::new`, tell it
+/// each report by a call of its kind, and ask `plan`. The laws say what reports leave, and what of
+/// a planned line stays.
+pub mod collect {
+    pub use line_collect::{
+        CollectError, Collection, Report, Told, collect, cut_messages_are_not_received,
+        faults_and_refusals_change_nothing, histories_follow_each_process,
+        live_lines_stay_consistent, recovered_lines_stay_consistent,
+        reports_in_pieces_are_answered_alike,
+    };
+}
