@@ -13,4 +13,5 @@ mod views;
 pub use commands::do_command;
 pub use halts::Halt;
 pub use laws::live_lines_stay;
-pub use replies::{put_refusal, put_reply, write_reply};
+pub use replies::{put_certificate, put_refusal, put_replays, put_reply, write_reply};
+pub use views::everybody;

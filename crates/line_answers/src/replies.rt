@@ -14,6 +14,7 @@ use line_fields::{Field, RecordWriter, put_ending, put_numbers};
 use line_names::{MsgName, ProcId};
 use line_world::Reply;
 pub(crate) use recoveries::put_recovery;
+pub use recoveries::{put_certificate, put_replays};
 use std::alloc::{AllocError, Global};
 
 // Writes a record of a name and a message. Like `put_took` it is put into its caller, so that its

@@ -177,8 +177,8 @@ pub(crate) fn put_whole_answer<K: Sink>(
     }
 }
 
-// All processes below `n`.
-fn everybody(n: u32) -> ProcSet
+/// All processes below `n`.
+pub fn everybody(n: u32) -> ProcSet
     requires { n ≤ MOST_PROCESSES }
     ensures { spec.IsEverybody n result }
 {

@@ -1,13 +1,11 @@
 //! One report: what it asks for is done, and the answer is written.
 
-ghost use Rattle.std.specs.Prelude.{◌≡◌, ◌≤◌, ◌++◌, Ok, Err, length};
-ghost use Rattle.line_answers.specs.Answers.{IsEverybody};
+ghost use Rattle.std.specs.Prelude.{◌≡◌, ◌++◌, Ok, Err, length};
 ghost use Rattle.line_collect.specs.Answers as spec;
 ghost use Rattle.line_collect.specs.Collections.{CollectionView};
 ghost use Rattle.line_collect.specs.Writing.{DoesReport, outcome_if_written};
 ghost use Rattle.line_devices.specs.Devices.{Outputs};
 ghost use Rattle.line_fields.specs.Texts.{record_text};
-ghost use Rattle.line_names.specs.declared.limits.TheConstants.{MOST_PROCESSES};
 ghost use Rattle.line_collect.specs.declared.reports.Report.{Report};
 ghost use Rattle.line_collect.specs.declared.reports.Report.TheVariants as reports;
 ghost use Rattle.line_collect.specs.Ranges.{IsReportInRange};
@@ -18,11 +16,12 @@ use crate::plan_records::put_plan_records;
 use crate::refusals::{CollectError, report_refusal_name};
 use crate::reports::ReportRef;
 use crate::tellings::Told;
+use line_answers::everybody;
 use line_claims::{earliest_version, numbers_of, put_check_text, put_history};
 use line_conversations::{Outcome, Stop};
 use line_devices::{DeviceFault, Sink};
 use line_fields::{Field, ReadError, RecordWriter, put_ending, put_numbers};
-use line_names::{MOST_PROCESSES, ProcId, ProcSet};
+use line_names::ProcSet;
 use std::alloc::Global;
 
 /// The outcome of an answer, if all of it was written.
@@ -165,21 +164,6 @@ fn put_plan_for<K: Sink>(
         }
         Err(error) => tell(sink, writer, Err(error)),
     }
-}
-
-/// All processes below `n`.
-fn everybody(n: u32) -> ProcSet
-    requires { n ≤ MOST_PROCESSES }
-    ensures { IsEverybody n result }
-{
-    let mut all = ProcSet::empty();
-    for value in 0..n {
-        let Ok(p) = ProcId::try_new(value, n) else {
-            unreachable!()
-        };
-        all = all.with(p);
-    }
-    all
 }
 
 /// Writes the plan where every process fails.

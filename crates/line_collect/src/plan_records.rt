@@ -1,7 +1,6 @@
 //! The records that are written for a plan.
 
-ghost use Rattle.std.specs.Prelude.{◌≡◌, ◌≤◌, ◌<◌, ◌++◌, IfSome, length};
-ghost use Rattle.line_answers.specs.Replies.{pass_records, replay_records};
+ghost use Rattle.std.specs.Prelude.{◌≡◌, ◌<◌, ◌++◌, IfSome, length};
 ghost use Rattle.line_collect.specs.Answers as spec;
 ghost use Rattle.line_devices.specs.Devices.{Outputs};
 ghost use Rattle.line_fields.specs.Texts.{record_text, records_text};
@@ -10,10 +9,10 @@ ghost use Rattle.line_tape.specs.History.{tape_at};
 ghost use Rattle.line_tape.specs.Line.{IsLine};
 ghost use Rattle.line_tape.specs.Restart.{HaveFurther};
 
-use line_claims::{numbers_of, put_pass};
+use line_answers::{put_certificate, put_replays};
 use line_devices::{DeviceFault, Sink};
 use line_fields::{Field, RecordWriter, put_ending, put_fields, put_numbers};
-use line_names::{Choice, Line, MsgName, Passed, ProcId};
+use line_names::{Choice, Line, ProcId};
 use line_plan::Plan;
 use line_tape::History;
 
@@ -80,38 +79,6 @@ fn put_all_going_on<K: Sink>(
     Ok(())
 }
 
-// Writes the pass records of a certificate.
-fn put_entries<K: Sink>(
-    sink: &mut K,
-    writer: &mut RecordWriter,
-    entries: &[Passed],
-) -> Result<(), DeviceFault>
-    ensures { Outputs result (K.taken sink.old) (K.taken sink.new) (K.faults sink.old)
-        (K.faults sink.new) writer.new
-        (writer.old ++ records_text (pass_records entries.now)) }
-{
-    for entry in entries {
-        put_pass(sink, writer, entry)?;
-    }
-    Ok(())
-}
-
-// Writes the records of the messages that are sent again.
-fn put_messages<K: Sink>(
-    sink: &mut K,
-    writer: &mut RecordWriter,
-    replays: &[MsgName],
-) -> Result<(), DeviceFault>
-    ensures { Outputs result (K.taken sink.old) (K.taken sink.new) (K.faults sink.old)
-        (K.faults sink.new) writer.new
-        (writer.old ++ records_text (replay_records replays.now)) }
-{
-    for i in 0..replays.len() {
-        put_numbers(sink, writer, b"replay", &numbers_of(replays[i]))?;
-    }
-    Ok(())
-}
-
 /// Writes the records of a plan after what a writer holds: where each process would go on, which
 /// choices were passed over, and which messages are sent again. The first record begins with the
 /// word.
@@ -138,6 +105,6 @@ pub(crate) fn put_plan_records<K: Sink>(
     ];
     put_numbers(sink, writer, word, &numbers)?;
     put_all_going_on(sink, writer, history, &plan.line)?;
-    put_entries(sink, writer, entries)?;
-    put_messages(sink, writer, replays)
+    put_certificate(sink, writer, entries)?;
+    put_replays(sink, writer, replays)
 }

@@ -115,8 +115,8 @@ fn put_lines<K: Sink>(
     Ok(())
 }
 
-// Writes the pass records of a certificate.
-fn put_passes<K: Sink>(
+/// Writes the pass records of a certificate after what a writer holds. It takes no memory.
+pub fn put_certificate<K: Sink>(
     sink: &mut K,
     writer: &mut RecordWriter,
     entries: &[Passed],
@@ -131,8 +131,9 @@ fn put_passes<K: Sink>(
     Ok(())
 }
 
-// Writes the records of the messages that are replayed.
-fn put_replays<K: Sink>(
+/// Writes the records of messages that are sent again after what a writer holds. It takes no
+/// memory.
+pub fn put_replays<K: Sink>(
     sink: &mut K,
     writer: &mut RecordWriter,
     replays: &[MsgName],
@@ -181,6 +182,6 @@ pub(crate) fn put_recovery<K: Sink>(
         incarnations.as_slice(),
         states.as_slice(),
     )?;
-    put_passes(sink, writer, entries)?;
+    put_certificate(sink, writer, entries)?;
     put_replays(sink, writer, replays)
 }

@@ -31,8 +31,8 @@ returns-in_err-put_all_going_on g c =
     (both_texts (lines c.args.history.now.processes c.args.plan.now) (rest c.args.plan.now))
     c.in_err-put_all_going_on.ensures c.from_residual-in_err-put_all_going_on.ensures.1)
 
-pub returns-in_err-put_entries : goal.returns-in_err-put_entries
-returns-in_err-put_entries g c =
+pub returns-in_err-put_certificate : goal.returns-in_err-put_certificate
+returns-in_err-put_certificate g c =
     outputs_on _ (record_text (head c.args.word.now c.args.plan.now)) (records_text (lines c.args.history.now.processes c.args.plan.now ++ rest c.args.plan.now)) _ refl
     (rw (c.as_slice-entries.ensures.value, c.as_slice-replays.ensures.value) at c.in_ok-put_numbers.ensures)
     (outputs_on _ (records_text (lines c.args.history.now.processes c.args.plan.now)) (records_text (rest c.args.plan.now)) _
@@ -40,7 +40,7 @@ returns-in_err-put_entries g c =
     c.in_ok-put_all_going_on.ensures
     (outputs_front _ _ _ _ (records_text (pass_records c.args.plan.now.certificate.items)) (records_text (replay_records c.args.plan.now.replays.items)) _
     (both_texts (pass_records c.args.plan.now.certificate.items) (replay_records c.args.plan.now.replays.items))
-    (rw c.as_slice-entries.ensures.value at c.in_err-put_entries.ensures) c.from_residual-in_err-put_entries.ensures.1))
+    (rw c.as_slice-entries.ensures.value at c.in_err-put_certificate.ensures) c.from_residual-in_err-put_certificate.ensures.1))
 
 pub returns : goal.returns
 returns g c =
@@ -51,4 +51,4 @@ returns g c =
     c.in_ok-put_all_going_on.ensures
     (outputs_on _ (records_text (pass_records c.args.plan.now.certificate.items)) (records_text (replay_records c.args.plan.now.replays.items)) _
     (both_texts (pass_records c.args.plan.now.certificate.items) (replay_records c.args.plan.now.replays.items))
-    (rw c.as_slice-entries.ensures.value at c.in_ok-put_entries.ensures) (rw c.as_slice-replays.ensures.value at c.put_messages.ensures)))
+    (rw c.as_slice-entries.ensures.value at c.in_ok-put_certificate.ensures) (rw c.as_slice-replays.ensures.value at c.put_replays.ensures)))

@@ -26,8 +26,8 @@ returns-in_err-put_lines g c =
     (both_texts (process_records c.args.plan.now.line c.args.incarnations.now.items c.args.states.now.items) (rest c.args.plan.now))
     (rw (c.choices-choices.ensures.value, c.as_slice.ensures.value, c.as_slice-2.ensures.value) at c.in_err-put_lines.ensures) c.from_residual-in_err-put_lines.ensures.1)
 
-pub returns-in_err-put_passes : goal.returns-in_err-put_passes
-returns-in_err-put_passes g c =
+pub returns-in_err-put_certificate : goal.returns-in_err-put_certificate
+returns-in_err-put_certificate g c =
     outputs_on _ (record_text (head c.args.word.now c.args.plan.now)) (records_text (process_records c.args.plan.now.line c.args.incarnations.now.items c.args.states.now.items ++ rest c.args.plan.now)) _ refl
     (rw (c.as_slice-entries.ensures.value, c.as_slice-replays.ensures.value) at c.in_ok-put_numbers.ensures)
     (outputs_on _ (records_text (process_records c.args.plan.now.line c.args.incarnations.now.items c.args.states.now.items)) (records_text (rest c.args.plan.now)) _
@@ -35,7 +35,7 @@ returns-in_err-put_passes g c =
     (rw (c.choices-choices.ensures.value, c.as_slice.ensures.value, c.as_slice-2.ensures.value) at c.in_ok-put_lines.ensures)
     (outputs_front _ _ _ _ (records_text (pass_records c.args.plan.now.certificate.items)) (records_text (replay_records c.args.plan.now.replays.items)) _
     (both_texts (pass_records c.args.plan.now.certificate.items) (replay_records c.args.plan.now.replays.items))
-    (rw c.as_slice-entries.ensures.value at c.in_err-put_passes.ensures) c.from_residual-in_err-put_passes.ensures.1))
+    (rw c.as_slice-entries.ensures.value at c.in_err-put_certificate.ensures) c.from_residual-in_err-put_certificate.ensures.1))
 
 pub returns : goal.returns
 returns g c =
@@ -46,4 +46,4 @@ returns g c =
     (rw (c.choices-choices.ensures.value, c.as_slice.ensures.value, c.as_slice-2.ensures.value) at c.in_ok-put_lines.ensures)
     (outputs_on _ (records_text (pass_records c.args.plan.now.certificate.items)) (records_text (replay_records c.args.plan.now.replays.items)) _
     (both_texts (pass_records c.args.plan.now.certificate.items) (replay_records c.args.plan.now.replays.items))
-    (rw c.as_slice-entries.ensures.value at c.in_ok-put_passes.ensures) (rw c.as_slice-replays.ensures.value at c.put_replays.ensures)))
+    (rw c.as_slice-entries.ensures.value at c.in_ok-put_certificate.ensures) (rw c.as_slice-replays.ensures.value at c.put_replays.ensures)))

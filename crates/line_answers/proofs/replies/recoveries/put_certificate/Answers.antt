@@ -2,7 +2,7 @@ use Rattle.std.proofs.Common.{◌<◌, ◌≤◌, length, arith}
 use Rattle.line_devices.proofs.OutputLemmas.{out_all, out_front, out_more, out_none}
 use Rattle.line_fields.proofs.OutletLemmas.{item_left, no_item_left}
 use Rattle.line_claims.specs.Records.{pass_record}
-use Rattle.line_collect.proofs.plan_records.put_entries.Goals as goal
+use Rattle.line_answers.proofs.replies.recoveries.put_certificate.Goals as goal
 
 pub loop-entry-init : goal.loop-entry-init
 loop-entry-init g c = out_none _ _ _ _
