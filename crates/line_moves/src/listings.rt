@@ -75,7 +75,7 @@ impl Listing {
     }
 
     /// Lists a round, in room that was made for it. It looks at each of its checks.
-    pub(crate) fn push(&mut self, round: Round)
+    pub fn push(&mut self, round: Round)
         requires { 0 < self.old.room }
         ensures { self.new.items ≡ self.old.items ++ round ∷ [] }
     {

@@ -6,9 +6,11 @@ ghost use Rattle.line_tape.specs.History.{Process};
 ghost use Rattle.line_tape.specs.Restart.{is_kept};
 ghost use Rattle.line_tape.specs.Colours.{is_completed_unordered};
 ghost use Rattle.line_tape.specs.Rounds.{check_line, is_completed_fifo, round_line};
+ghost use Rattle.line_colours.specs.Tables.{between, IsTable};
 ghost use Rattle.line_colours.specs.Turning.{IsTurning};
 ghost use Rattle.line_steps.specs.declared.modes.Mode.TheVariants.{Fifo, Unordered};
-ghost use Rattle.line_moves.specs.Listed.{check_in, channel_in, listed_round, stays, IsSnapshotOf};
+ghost use Rattle.line_moves.specs.Listed.{check_in, channel_in, channel_table, listed_round, stays};
+ghost use Rattle.line_moves.specs.Listed.{IsSnapshotOf};
 ghost use Rattle.line_moves.specs.Listings.{IsBelow};
 ghost use Rattle.line_marker.specs.Recording.{MarkerView};
 ghost use Rattle.line_moves.specs.Openings.{kept_channel, recorded_channel, recording_of};
@@ -52,6 +54,39 @@ impl Model for Round {
 }
 
 impl Round {
+    /// A completed round of this number, with its checks and what was in transit there, which is
+    /// of as many processes.
+    ///
+    /// It takes no memory. Whether it is a snapshot of a history is for the caller to see to.
+    pub fn of_channels(
+        alloc: Global,
+        number: u32,
+        checks: Vec<u32>,
+        counted: SharedChannels,
+    ) -> Round
+        requires { IsTable (length checks.items) counted }
+        ensures number { result.number ≡ number }
+        ensures checks { result.checks ≡ checks.items }
+        ensures channels { result.channels
+            ≡ channel_table (length checks.items) (between counted) }
+    {
+        Round {
+            number,
+            checks,
+            markers: Vec::new(alloc),
+            counted: Some(counted),
+        }
+    }
+
+    /// The indices of its checks, by process. It has a channel for each two of these processes.
+    pub fn checks(&self) -> &[u32]
+        ensures value { result.now ≡ self.now.checks }
+        ensures channels { self.now.channels
+            ≡ channel_table (length self.now.checks) (channel_in self.now) }
+    {
+        self.checks.as_slice()
+    }
+
     /// Its number, from 1.
     pub fn number(&self) -> u32
         ensures { result ≡ self.now.number }

@@ -9,5 +9,6 @@ pub mod FlaggedLemmas
 pub mod TurnedFacts
 pub mod KnownFacts
 pub mod RunLemmas
+pub mod ResumeLemmas
 pub mod GrowthFacts
 pub mod SoundFacts

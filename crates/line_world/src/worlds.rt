@@ -12,6 +12,7 @@ ghost use Rattle.line_steps.specs.Shown.{step_of_ref, HasShortBody};
 ghost use Rattle.line_world.specs.Steps.{IsPlan};
 
 mod deliveries;
+mod parts;
 mod recoveries;
 mod refusals;
 mod rounds;

@@ -65,8 +65,8 @@ impl World {
         None
     }
 
-    /// Whether the last round begun is on a tape and not completed.
-    fn is_open(&self) -> bool
+    /// Whether a round is open: the last one begun is on a tape and not completed.
+    pub fn is_open(&self) -> bool
         ensures { result ≡ is_open self.now }
     {
         match &self.protocol {
