@@ -1,3 +1,5 @@
 pub mod Floors
 pub mod Left
 pub mod Marks
+pub mod Machines
+pub mod Forgets
