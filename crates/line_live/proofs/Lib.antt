@@ -6,3 +6,4 @@ pub mod WholeLemmas
 pub mod ListedCuts
 pub mod AlikeLemmas
 pub mod ForgetLemmas
+pub mod LiveFloors

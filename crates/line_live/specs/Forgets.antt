@@ -1,10 +1,12 @@
 -- What a machine refuses to let go.
-use Rattle.std.specs.Prelude.{◌≡◌, ℕ, ◌==◌, Bool, if◌then◌else◌, List, [], ◌∷◌, length, Option}
-use Rattle.std.specs.Prelude.{Some, None}
+use Rattle.std.specs.Prelude.{◌≡◌, ℕ, ◌<◌, ◌==◌, Bool, true, if◌then◌else◌, List, [], ◌∷◌, length}
+use Rattle.std.specs.Prelude.{Option, Some, None}
 use Rattle.std.specs.List.{list_all, range_with_len}
+use Rattle.line_names.specs.declared.choices.Choice.{Choice}
 use Rattle.line_names.specs.declared.choices.Choice.TheVariants.{Check as AtCheck}
+use Rattle.line_names.specs.Sets.{is_member}
 use Rattle.line_tape.specs.Rounds.{check_line}
-use Rattle.line_tape.specs.Survival.{survives}
+use Rattle.line_tape.specs.Survival.{survives, IsLatest}
 use Rattle.line_steps.specs.declared.modes.Mode.{Mode}
 use Rattle.line_steps.specs.declared.modes.Mode.TheVariants.{Fifo, Unordered}
 use Rattle.line_moves.specs.Listed.{ListedRound, check_in}
@@ -55,3 +57,13 @@ pub record IsFloorOfRound (machine : Machine) (number : ℕ) (floor : Floor) : T
   pub round : ListedRound
   pub listed : listed_of machine.rounds number ≡ Some round
   pub at : IsFloorAt machine round floor
+
+-- it is at the latest line where each process fails
+pub record IsFloorWhereAllFail (machine : Machine) (floor : Floor) : Type 0 where
+  pub failed : List Bool
+  pub all : (p : ℕ) → p < length machine.history → is_member failed p ≡ true
+  pub line : List Choice
+  pub latest : IsLatest machine.history machine.marks failed line
+  pub value : floor ≡ floor_of_line machine.history line machine.last_round
+  pub is : IsFloor machine.history floor
+  pub stays : FloorSurvives machine.history machine.marks floor

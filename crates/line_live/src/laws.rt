@@ -1,5 +1,5 @@
 //! Laws of marks that differ in their order alone, and of machines with such marks.
-ghost use Rattle.std.specs.Prelude.{◌≡◌, ◌<◌, ◌≤◌, ℕ, Bool, false, All, List, length};
+ghost use Rattle.std.specs.Prelude.{◌≡◌, ◌<◌, ◌≤◌, ℕ, Bool, false, All, List, None, length};
 ghost use Rattle.line_names.specs.declared.certificates.Passed.{Passed};
 ghost use Rattle.line_names.specs.declared.choices.Choice.{Choice};
 ghost use Rattle.line_tape.specs.Chain.{IsChain};
@@ -12,7 +12,10 @@ ghost use Rattle.line_steps.specs.declared.steps.Step.{Step};
 ghost use Rattle.line_world.specs.declared.replies.Answer.{Answer};
 ghost use Rattle.line_world.specs.Machine.{Machine, is_open};
 ghost use Rattle.line_world.specs.Runs.{Takes};
-ghost use Rattle.line_lives.specs.Lives.{cut_machine, cut_step, IsBeside, SparesFloor};
+ghost use Rattle.line_world.specs.Sound.{IsSound};
+ghost use Rattle.line_lives.specs.Lives.{cut_machine, cut_step, IsBeside, MayForget, SparesFloor};
+ghost use Rattle.line_live.specs.Forgets.{forget_refusal, idle_refusal, IsFloorOfRound};
+ghost use Rattle.line_live.specs.Forgets.{IsFloorWhereAllFail};
 ghost use Rattle.line_live.specs.Machines.{IsAnsweredAlike, IsAnsweredAsWhole, IsSameMachine};
 ghost use Rattle.line_live.specs.Marks.{AreSameMarks};
 
@@ -80,4 +83,19 @@ pub fn kept_machines_let_go_further()
         → length whole.marks.bars ≡ length whole.history
         → All (IsSnapshotOf whole.history) whole.rounds
         → IsSameMachine new (cut_machine (whole_floor floor later) whole) }
+{}
+
+/// Where nothing refuses a floor, a machine whose rounds are as every run leaves them may let go
+/// what stands before the one that is found: so `lives_begin` of `line_lives` holds of it.
+///
+/// The call does nothing: its contract is the law.
+pub fn found_floors_may_be_taken()
+    ensures round { (machine : Machine) (number : ℕ) (floor : Floor)
+        → IsSound machine → length machine.marks.damaged ≡ length machine.history
+        → forget_refusal machine number ≡ None → IsFloorOfRound machine number floor
+        → MayForget floor machine }
+    ensures live { (machine : Machine) (floor : Floor)
+        → IsSound machine → length machine.marks.damaged ≡ length machine.history
+        → idle_refusal machine.mode (is_open machine) None ≡ None
+        → IsFloorWhereAllFail machine floor → MayForget floor machine }
 {}

@@ -10,6 +10,7 @@ mod histories;
 mod laws;
 mod left_events;
 mod listed;
+mod live_floors;
 mod marked;
 mod refusals;
 mod whole_floors;
@@ -21,9 +22,10 @@ pub use forgets::forget_round;
 pub use found_floors::floor_at;
 pub use histories::cut_history;
 pub use laws::{
-    kept_machines_answer_as_whole, kept_machines_let_go_further, same_machines_answer_alike,
-    same_marks_plan_alike,
+    found_floors_may_be_taken, kept_machines_answer_as_whole, kept_machines_let_go_further,
+    same_machines_answer_alike, same_marks_plan_alike,
 };
+pub use live_floors::forget_live;
 pub use marked::cut_marks;
 pub use refusals::ForgetError;
 pub use whole_floors::whole_floor;
