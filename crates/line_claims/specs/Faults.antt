@@ -43,4 +43,5 @@ name_of code =
     else if code == 44 then codes "ReplayDiffers"
     else if code == 45 then codes "ReplayRepeated"
     else if code == 46 then codes "ReplayMissing"
+    else if code == 47 then codes "StaleReport"
     else []

@@ -56,6 +56,7 @@ pub fn name_of(code: u32) -> &'static str
         44 => "ReplayDiffers",
         45 => "ReplayRepeated",
         46 => "ReplayMissing",
+        47 => "StaleReport",
         _ => "",
     }
 }
