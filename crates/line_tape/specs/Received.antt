@@ -1,5 +1,5 @@
--- Which sends before a line are received, as the events of the processes are gone through.
-use Rattle.std.specs.Prelude.{◌≡◌, ℕ, ◌<◌, ◌==◌, nat_lt, Bool, false, if◌then◌else◌, List, []}
+-- Which sends before a line are received, as the receipts of the processes are gone through.
+use Rattle.std.specs.Prelude.{◌≡◌, ℕ, ◌<◌, ◌≤◌, ◌==◌, nat_lt, Bool, false, if◌then◌else◌, List, []}
 use Rattle.std.specs.Prelude.{length, slice_get, slice_index_or, Some}
 use Rattle.line_names.specs.declared.choices.Choice.{Choice}
 use Rattle.line_tape.specs.declared.events.Event.{Event}
@@ -16,20 +16,31 @@ with_seen seen q events p = if p == q then events else seen p
 abbrev pub seen_below : List Process → List Choice → ℕ → ℕ → List Event
 seen_below history line q p = if nat_lt p q then events_before history line p else []
 
--- for each send of process p before the line it is told whether what is seen of its addressee
+-- there is a flag for each send before the line, by process and number
+pub record HasFlags (history : List Process) (line : List Choice) (flags : List (List Bool))
+    : Type 0 where
+  pub processes : length history ≤ length flags
+  pub sends_of : (p : ℕ) → p < length history
+      → sends (events_before history line p) ≤ length (slice_index_or flags p [])
+
+-- no flag is set, and there are as many as before
+pub record AreCleared (old new : List (List Bool)) : Type 0 where
+  pub processes : length new ≡ length old
+  pub sends_of : (p : ℕ) → length (slice_index_or new p []) ≡ length (slice_index_or old p [])
+  pub none : (p k : ℕ) → slice_index_or (slice_index_or new p []) k false ≡ false
+
+-- the flag of each send of process p before the line tells whether what is seen of its addressee
 -- receives it
 pub record IsTold (history : List Process) (line : List Choice) (seen : ℕ → List Event) (p : ℕ)
-    (received : List Bool) : Type 0 where
-  pub count : length received ≡ sends (events_before history line p)
+    (flags : List Bool) : Type 0 where
   pub each : (k inc to : ℕ)
       → slice_get (incarnations_sent (events_before history line p)) k ≡ Some inc
       → slice_get (addressees (events_before history line p)) k ≡ Some to
-      → slice_index_or received k false
+      → slice_index_or flags k false
       ≡ has_received (seen to) (record { from = p; inc = inc; number = k })
 
--- for each process
+-- there is a flag for each send before the line, and each tells that
 pub record AreTold (history : List Process) (line : List Choice) (seen : ℕ → List Event)
-    (received : List (List Bool)) : Type 0 where
-  pub count : length received ≡ length history
-  pub each : (p : ℕ) → p < length history
-      → IsTold history line seen p (slice_index_or received p [])
+    (flags : List (List Bool)) : Type 0 where
+  pub whole : HasFlags history line flags
+  pub each : (p : ℕ) → p < length history → IsTold history line seen p (slice_index_or flags p [])

@@ -8,6 +8,7 @@
 
 mod bars;
 mod events;
+mod flags;
 mod histories;
 mod items;
 mod limits;
@@ -21,6 +22,7 @@ mod transits;
 
 pub use bars::BarError;
 pub use events::{Event, EventRef, State};
+pub use flags::ReceivedFlags;
 pub use histories::{CountError, History, HistoryError};
 pub use items::Item;
 pub use limits::{LAST_INCARNATION, LAST_ROUND, MOST_EVENTS, MOST_STATE};

@@ -1,6 +1,7 @@
 //! An index of the receipts of one tape.
 ghost use Rattle.std.specs.Prelude.{◌≡◌, ◌≢◌, ◌<◌, ◌≤◌, ◌+◌, ◌-◌, ◌↔◌, ℕ, suc, [], ◌∷◌, ◌++◌};
-ghost use Rattle.std.specs.Prelude.{Contains, IfOk, IsOk, IsTrue, length, map, take};
+ghost use Rattle.std.specs.Prelude.{Contains, IfOk, IsOk, IsTrue, Some, length, map, slice_get};
+ghost use Rattle.std.specs.Prelude.{take};
 ghost use Rattle.std.specs.Prelude.{vec_capacity, vec_len};
 ghost use Rattle.line_tape.specs.Noted.{AreChained, AreInTree, AreNoted, IsLastOfSender};
 ghost use Rattle.line_tape.specs.Noted.{name_of_receipt};
@@ -114,6 +115,14 @@ impl Receipts {
         ensures { result ≡ length self.now.names }
     {
         self.receipts.len() as u32
+    }
+
+    /// The message that is received after `i` others.
+    pub fn at(&self, i: usize) -> MsgName
+        requires { i < length self.now.names }
+        ensures { slice_get self.now.names i ≡ Some result }
+    {
+        self.receipts[i].message()
     }
 
     /// Makes room for so many further receipts and their senders, and tells for how many receipts

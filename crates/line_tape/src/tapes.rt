@@ -202,6 +202,22 @@ impl Tape {
         self.row(choice).sends
     }
 
+    /// How many receipts stand before a choice.
+    pub(crate) fn receipts_before(&self, choice: Choice) -> u32
+        requires { HasChoice self.now.events choice }
+        ensures { result ≡ length (names_received (front self.now.events choice)) }
+    {
+        self.row(choice).receipts
+    }
+
+    /// The message that is received after `i` others.
+    pub(crate) fn receipt(&self, i: u32) -> MsgName
+        requires { i < length (names_received self.now.events) }
+        ensures { slice_get (names_received self.now.events) i ≡ Some result }
+    {
+        self.receipts.at(i as usize)
+    }
+
     /// Whether the send of that number, counted from 0, stands before a choice and has that
     /// incarnation.
     pub fn sent_before(&self, choice: Choice, inc: u16, number: u32) -> bool

@@ -6,7 +6,7 @@ ghost use Rattle.line_tape.specs.Noted.{AreChained, IsAhead, IsBack, IsLastOfSen
 ghost use Rattle.line_tape.specs.Noted.{name_of_receipt};
 ghost use Rattle.line_tape.specs.Noted.{name_at};
 
-use line_names::MsgName;
+use line_names::{MOST_PROCESSES, MsgName, ProcId};
 
 /// A receipt of a message, with two links: each is 0, or one more than the number of a receipt.
 ///
@@ -38,6 +38,21 @@ impl Receipt {
             inc: message.inc,
             from: message.from.get() as u8,
             height: 0,
+        }
+    }
+
+    /// The message that it is of.
+    pub fn message(&self) -> MsgName
+        ensures { result ≡ name_of_receipt self.now }
+    {
+        let from = u32::from(self.from);
+        let Ok(from) = ProcId::try_new(from, MOST_PROCESSES as u32) else {
+            unreachable!()
+        };
+        MsgName {
+            from,
+            inc: self.inc,
+            number: self.number,
         }
     }
 

@@ -1,11 +1,7 @@
 use Rattle.std.proofs.Common.{◌≡◌, map}
 use Rattle.std.specs.List.{flat_map, range_with_len}
-use Rattle.line_tape.specs.Received.{seen_below, AreTold}
 use Rattle.line_tape.specs.Transit.{Letter, open_letters}
 use Rattle.line_tape.proofs.histories.History.transit.Given as goal
-
-abbrev pub invariant-loop-receiver : goal.invariant-loop-receiver
-invariant-loop-receiver l = AreTold l.self.processes l.line (seen_below l.self.processes l.line l.receiver) l.received.items
 
 abbrev pub invariant-loop-sender : goal.invariant-loop-sender
 invariant-loop-sender l =
