@@ -103,6 +103,7 @@ fn take_replay(
     claim: &mut Claim,
     number: u64,
     row: &FieldRow<'_>,
+    bytes: &mut Vec<u8>,
 ) -> Result<ClaimStage, TextError>
     requires { n ≤ MOST_PROCESSES }
     ensures exact { Goes result (spec.replays_left version n (claims.claim_view claim.old) number)
@@ -113,7 +114,7 @@ fn take_replay(
     if !is_replay(version, row) {
         return take_end(claim, number, row);
     }
-    match replay_of(&mut claim.replays, n, row) {
+    match replay_of(&mut claim.replays, n, row, bytes) {
         Ok(()) => Ok(ClaimStage::Replays),
         Err(error) => Err(error_at(number, error)),
     }
@@ -126,6 +127,7 @@ fn take_start(
     claim: &mut Claim,
     number: u64,
     row: &FieldRow<'_>,
+    bytes: &mut Vec<u8>,
 ) -> Result<ClaimStage, TextError>
     requires { n ≤ MOST_PROCESSES }
     ensures exact { Goes result (spec.starts_left version n (claims.claim_view claim.old) number)
@@ -137,7 +139,7 @@ fn take_start(
     let taken = starts.len();
     let count = starts_in(version, n);
     if taken >= count as usize {
-        return take_replay(version, n, claim, number, row);
+        return take_replay(version, n, claim, number, row, bytes);
     }
     if !is_named(row, b"start") {
         return Err(fault_at(number, Fault::BadRecord));
@@ -155,6 +157,7 @@ fn take_entry(
     claim: &mut Claim,
     number: u64,
     row: &FieldRow<'_>,
+    bytes: &mut Vec<u8>,
 ) -> Result<ClaimStage, TextError>
     requires { n ≤ MOST_PROCESSES }
     ensures exact { Goes result (spec.entries_left version n (claims.claim_view claim.old) number)
@@ -163,7 +166,7 @@ fn take_entry(
     ensures same { claim.new.marks ≡ claim.old.marks }
 {
     if !is_named(row, b"pass") {
-        return take_start(version, n, claim, number, row);
+        return take_start(version, n, claim, number, row, bytes);
     }
     match entry_of(&mut claim.certificate, n, row) {
         Ok(()) => Ok(ClaimStage::Entries),
@@ -281,7 +284,8 @@ fn take_damage(
 }
 
 /// Takes the next record of a claim among `n` processes in a text of that version, which may be of
-/// that part or of one that may follow it, and answers the same of the record after it.
+/// that part or of one that may follow it, and answers the same of the record after it. The bytes
+/// of a message take the place of those of a list.
 pub(crate) fn take_of_claim(
     version: u32,
     n: u32,
@@ -289,6 +293,7 @@ pub(crate) fn take_of_claim(
     claim: &mut Claim,
     number: u64,
     row: &FieldRow<'_>,
+    bytes: &mut Vec<u8>,
 ) -> Result<ClaimStage, TextError>
     requires few { n ≤ MOST_PROCESSES }
     requires whole { length claim.old.marks.damaged ≡ n }
@@ -302,9 +307,9 @@ pub(crate) fn take_of_claim(
         ClaimStage::Damage => take_damage(version, n, claim, number, row),
         ClaimStage::Bars => take_bar(version, n, claim, number, row),
         ClaimStage::Line => take_line(version, claim, number, row),
-        ClaimStage::Entries => take_entry(version, n, claim, number, row),
-        ClaimStage::Starts => take_start(version, n, claim, number, row),
-        ClaimStage::Replays => take_replay(version, n, claim, number, row),
+        ClaimStage::Entries => take_entry(version, n, claim, number, row, bytes),
+        ClaimStage::Starts => take_start(version, n, claim, number, row, bytes),
+        ClaimStage::Replays => take_replay(version, n, claim, number, row, bytes),
         ClaimStage::Nothing => Err(fault_at(number, Fault::BadRecord)),
     }
 }

@@ -9,7 +9,7 @@ ghost use Rattle.line_claims.specs.Reads.{Steps};
 use crate::numbers::{choice, incarnation, plain, process, state_or_none, want};
 use crate::versions::most_in;
 use line_check::{Replay, Start};
-use line_fields::{Fault, FieldRow, ReadError, hex};
+use line_fields::{Fault, FieldRow, ReadError, hex_into};
 use line_names::{Body, Certificate, Line, MOST_BODY, MsgName, Passed, ProcId, ProcSet};
 use line_tape::{BarError, MOST_STATE, MarkError, Marks, State};
 
@@ -153,34 +153,36 @@ pub(crate) fn start_of(starts: &mut Vec<Start>, n: u32, row: &FieldRow<'_>) -> R
     Ok(())
 }
 
-/// Adds the message of `replay,FROM,INC,NUMBER,TO,PLACE,HEX`.
+/// Adds the message of `replay,FROM,INC,NUMBER,TO,PLACE,HEX`. Its bytes take the place of those of
+/// a list.
 #[tactic(auto, unfolding(crate::specs::Entries::replay_of))]
 pub(crate) fn replay_of(
     replays: &mut Vec<Replay>,
     n: u32,
     row: &FieldRow<'_>,
+    bytes: &mut Vec<u8>,
 ) -> Result<(), ReadError>
     requires { n ≤ MOST_PROCESSES }
     ensures { Steps result (spec.replay_of n replays.old.items row.now) replays.new.items }
 {
-    let alloc = *replays.allocator();
     want(row.len() == 7, Fault::BadRecord)?;
     let from = plain(row, 1)?;
     let inc = incarnation(row, 2)?;
     let number = plain(row, 3)?;
     let to = plain(row, 4)?;
     let place = plain(row, 5)?;
-    let bytes = hex(alloc, row.field(6))?;
+    hex_into(bytes, row.field(6))?;
     let from = process(n, from)?;
     let to = process(n, to)?;
     want(bytes.len() <= MOST_BODY, Fault::BodyTooLong)?;
     let body = Body::try_new(bytes.as_slice()).unwrap();
     let message = MsgName { from, inc, number };
-    replays.push(Replay {
+    replays.reserve(1)?;
+    replays.push_reserved(Replay {
         message,
         to,
         place,
         body,
-    })?;
+    });
     Ok(())
 }

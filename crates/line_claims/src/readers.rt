@@ -63,6 +63,7 @@ fn take_in_claim(
     stage: ClaimStage,
     number: u64,
     row: &FieldRow<'_>,
+    bytes: &mut Vec<u8>,
 ) -> Result<(), TextError>
     requires { IsBegun begun.old }
     ensures exact { Goes result
@@ -73,7 +74,8 @@ fn take_in_claim(
     ensures kept { IsBegun begun.new }
 {
     let n = begun.text.history.n();
-    let next = take_of_claim(begun.version, n, stage, &mut begun.text.claim, number, row)?;
+    let claim = &mut begun.text.claim;
+    let next = take_of_claim(begun.version, n, stage, claim, number, row, bytes)?;
     begun.stage = Some(next);
     Ok(())
 }
@@ -84,6 +86,7 @@ fn take_row(
     begun: &mut Option<BegunCheck>,
     number: u64,
     row: &FieldRow<'_>,
+    bytes: &mut Vec<u8>,
 ) -> Result<(), TextError>
     requires kept { IfSome begun.old IsBegun }
     requires other { IfSome begun.old (λ begun. spec.IsBeyondTape begun row.now) }
@@ -98,12 +101,12 @@ fn take_row(
         return begin_check(alloc, begun, row);
     };
     if let Some(stage) = begun.stage {
-        return take_in_claim(begun, stage, number, row);
+        return take_in_claim(begun, stage, number, row, bytes);
     }
     if take_next_tape(&mut begun.text.history, &mut begun.tapes, number, row)? {
         return Ok(());
     }
-    take_in_claim(begun, ClaimStage::Damage, number, row)
+    take_in_claim(begun, ClaimStage::Damage, number, row, bytes)
 }
 
 // Takes the events of the tape that was begun last, from the record in the row on, while the tapes
@@ -173,7 +176,7 @@ fn take_records(
         if !take_events_of(alloc, &mut records, begun, number, &mut row, bytes)? {
             return Ok(());
         }
-        take_row(alloc, begun, *number, &row)?;
+        take_row(alloc, begun, *number, &row, bytes)?;
         *number += 1;
     }
     Ok(())

@@ -93,10 +93,11 @@ fn take_claim<'a>(
     ensures { Yields (λ _. claims.claim_view claim.new) result
         (claim_left ClaimStage.Damage version n (claims.claim_view claim.old) 1 records.old) }
 {
+    let mut bytes = Vec::new(*claim.replays.allocator());
     let mut stage = ClaimStage::Damage;
     let mut number = 1u64;
     'records: while records.next_row(row)? {
-        stage = take_of_claim(version, n, stage, claim, number, row)?;
+        stage = take_of_claim(version, n, stage, claim, number, row, &mut bytes)?;
         number += 1;
     }
     close_claim(stage, number)
