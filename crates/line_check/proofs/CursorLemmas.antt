@@ -1,18 +1,26 @@
 -- What is still in transit, as the events of the senders are gone through.
-use Rattle.std.proofs.Common.{◌≡◌, ℕ, zero, suc, ◌+◌, ◌-◌, ◌*◌, ◌<◌, ◌≤◌, Bool, true, false, cond, List, [], ◌∷◌, ◌++◌, length, take, drop, filter, Some, refl, sym, ap, ◌∙◌, subst, arith, inl, inr, length-append}
-use Rattle.std.specs.List.{flat_map, range_with_len, slice_get}
+use Rattle.std.proofs.Common.{◌≡◌, ℕ, zero, suc, ◌+◌, ◌-◌, ◌*◌, ◌<◌, ◌≤◌, Bool, true, false, cond, List, [], ◌∷◌, ◌++◌, length, take, drop, filter, get_or, Option, Some, None, refl, sym, ap, ◌∙◌, subst, arith, inl, inr, length-append}
+use Rattle.std.specs.List.{filter_map, flat_map, range_with_len, slice_get}
+use Rattle.std.specs.Prelude.{IfSome}
 use Rattle.std.proofs.lemmas.Bool.{cases_lt}
-use Rattle.std.proofs.lemmas.List.{drop_more, drop_all}
+use Rattle.std.proofs.lemmas.List.{append_assoc, drop_more, drop_all, length_push, take-append-drop, take_more}
+use Rattle.std.proofs.lemmas.List.Elements.{filter_map-append}
 use Rattle.std.proofs.lemmas.Option.{slice_get_within, get_or_from_slice_get}
 use Rattle.line_names.specs.declared.choices.Choice.{Choice}
+use Rattle.line_names.specs.declared.messages.MsgName.{MsgName}
 use Rattle.line_names.specs.Lines.{choice_at}
 use Rattle.line_tape.specs.declared.events.Event.{Event}
 use Rattle.line_tape.specs.declared.events.Event.TheVariants.{Send, Recv, Check, Mark}
 use Rattle.line_tape.specs.declared.limits.TheConstants.{MOST_EVENTS}
+use Rattle.line_tape.specs.Event.{incarnation_of, incarnations_sent, sends}
 use Rattle.line_tape.specs.Front.{front}
 use Rattle.line_tape.specs.History.{Process, tape_at, IsHistory}
 use Rattle.line_tape.specs.Line.{events_before}
+use Rattle.line_tape.specs.Received.{AreTold}
+use Rattle.line_tape.specs.Transit.{addressee_of, addressees, has_received}
+use Rattle.line_tape.proofs.EventLemmas.{length_addressees}
 use Rattle.line_tape.proofs.LineLemmas.{tape_at-past, front-empty}
+use Rattle.line_tape.proofs.RowLemmas.{told-none, told-some}
 use Rattle.line_check.specs.declared.answers.Replay.{Replay}
 use Rattle.line_check.specs.Answers.{messages_sent, is_unreceived, replays_of, replays_due, still_due}
 
@@ -20,6 +28,62 @@ use Rattle.line_check.specs.Answers.{messages_sent, is_unreceived, replays_of, r
 pub drop_shown : {A : Type 0} (xs : List A) (i : ℕ) (x : A) → slice_get xs i ≡ Some x → drop i xs ≡ x ∷ drop (i + 1) xs
 drop_shown xs i x is =
     drop_more xs i x (slice_get_within xs i x is) ∙ ap (λ y. y ∷ drop (i + 1) xs) (get_or_from_slice_get xs i x x is)
+
+-- what holds where there is one, by what holds there
+pub with_one : {A : Type 0} (x : Option A) {P Q : A → Type 0} → IfSome x P → ((a : A) → P a → Q a) → IfSome x Q
+with_one (Some a) p f = f a p
+with_one None p f = tt
+
+pub with_both : {A : Type 0} (x : Option A) {P Q R : A → Type 0} → IfSome x P → IfSome x Q → ((a : A) → P a → Q a → R a) → IfSome x R
+with_both (Some a) p q f = f a p q
+with_both None p q f = tt
+
+-- an event that sends nothing is passed, and so is one that sends
+pub sends-skip : (events : List Event) (place : ℕ) (event : Event) → slice_get events place ≡ Some event → incarnation_of event ≡ None → sends (take (place + 1) events) ≡ sends (take place events)
+sends-skip events place event at none =
+    ap (λ (es : List Event). sends es) (take_more events place event (slice_get_within events place event at) ∙ ap (λ (e : Event). take place events ++ e ∷ []) (get_or_from_slice_get events place event event at))
+    ∙ ap (λ (xs : List ℕ). length xs) (told-none incarnation_of (take place events) event none)
+
+pub sends-more : (events : List Event) (place to inc : ℕ) (body : List ℕ) → slice_get events place ≡ Some (Send to inc body) → sends (take (place + 1) events) ≡ sends (take place events) + 1
+sends-more events place to inc body at =
+    let event : Event = Send to inc body in
+    ap (λ (es : List Event). sends es) (take_more events place event (slice_get_within events place event at) ∙ ap (λ (e : Event). take place events ++ e ∷ []) (get_or_from_slice_get events place event event at))
+    ∙ ap (λ (xs : List ℕ). length xs) (told-some incarnation_of (take place events) event inc refl)
+    ∙ length_push (incarnations_sent (take place events)) inc
+
+-- the send at a place has as its number how many stand before it
+at_length : (xs ys : List ℕ) (x : ℕ) → slice_get (xs ++ x ∷ ys) (length xs) ≡ Some x
+at_length [] ys x = refl
+at_length (y ∷ xs) ys x = at_length xs ys x
+
+told_there : (tell : Event → Option ℕ) (events : List Event) (place x : ℕ) (event : Event) → slice_get events place ≡ Some event → tell event ≡ Some x → slice_get (filter_map tell events) (length (filter_map tell (take place events))) ≡ Some x
+told_there tell events place x event at tells =
+    let split : events ≡ (take place events ++ event ∷ []) ++ drop (place + 1) events = sym (take-append-drop place events) ∙ ap (λ (es : List Event). take place events ++ es) (drop_shown events place event at) ∙ sym (append_assoc (take place events) (event ∷ []) (drop (place + 1) events)) in
+    let parts : filter_map tell events ≡ filter_map tell (take place events) ++ x ∷ filter_map tell (drop (place + 1) events) =
+    ap (λ (es : List Event). filter_map tell es) split
+    ∙ filter_map-append tell (take place events ++ event ∷ []) (drop (place + 1) events)
+    ∙ ap (λ (xs : List ℕ). xs ++ filter_map tell (drop (place + 1) events)) (told-some tell (take place events) event x tells)
+    ∙ append_assoc (filter_map tell (take place events)) (x ∷ []) (filter_map tell (drop (place + 1) events)) in
+    ap (λ (xs : List ℕ). slice_get xs (length (filter_map tell (take place events)))) parts ∙ at_length (filter_map tell (take place events)) (filter_map tell (drop (place + 1) events)) x
+
+-- its flag
+pub record HasFlag (history : List Process) (line : List Choice) (flags : List (List Bool)) (message : MsgName) (to : ℕ) : Type 0 where
+  pub flag : message.number < length (get_or flags message.from [])
+  pub told : get_or (get_or flags message.from []) message.number false ≡ has_received (events_before history line to) message
+
+pub has_flag : (history : List Process) (line : List Choice) (flags : List (List Bool)) (p number place : ℕ) (events : List Event) (to inc : ℕ) (body : List ℕ) → AreTold history line (events_before history line) flags → p < length history
+    → events ≡ events_before history line p → slice_get events place ≡ Some (Send to inc body) → number ≡ sends (take place events)
+    → HasFlag history line flags (record { from = p; inc = inc; number = number }) to
+has_flag history line flags p number place events to inc body told within same at counted =
+    let es : List Event = events_before history line p in
+    let there : slice_get es place ≡ Some (Send to inc body) = subst (λ (xs : List Event). slice_get xs place ≡ Some (Send to inc body)) same at in
+    let count : number ≡ sends (take place es) = counted ∙ ap (λ (xs : List Event). sends (take place xs)) same in
+    let i : slice_get (incarnations_sent es) number ≡ Some inc = ap (slice_get (incarnations_sent es)) count ∙ told_there incarnation_of es place inc (Send to inc body) there refl in
+    let a : slice_get (addressees es) number ≡ Some to = ap (slice_get (addressees es)) (count ∙ sym (length_addressees (take place es))) ∙ told_there addressee_of es place to (Send to inc body) there refl in
+    record {
+      flag = omega (arith, told.whole.sends_of p within, slice_get_within (incarnations_sent es) number inc i);
+      told = (told.each p within).each number inc to i a;
+    }
 
 module _ (history : List Process) (line : List Choice) where
   -- what is left where a walk has come so far

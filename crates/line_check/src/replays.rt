@@ -1,7 +1,8 @@
 //! The messages that are sent again.
-ghost use Rattle.std.specs.Prelude.{◌≡◌, ◌≤◌, ◌↔◌, List, IsTrue, IsOk, IfErr, Some};
+ghost use Rattle.std.specs.Prelude.{◌≡◌, ◌≤◌, ◌↔◌, List, IsTrue, IsOk, IfErr, IfSome, Some};
 ghost use Rattle.std.specs.Prelude.{Contains, drop, length, slice_get};
-ghost use Rattle.line_tape.specs.Line.{IsLine};
+ghost use Rattle.line_tape.specs.Line.{events_before, IsLine};
+ghost use Rattle.line_tape.specs.Received.{AreTold};
 ghost use Rattle.line_check.specs.declared.answers.Replay.{Replay};
 ghost use Rattle.line_check.specs.Answers.{replay_of_ref, replays_due};
 ghost use Rattle.line_check.specs.Faults.{ArePartOf, IsFaultOfReplays, IsInTransit};
@@ -9,10 +10,10 @@ ghost use Rattle.line_check.specs.Faults.{IsReplayFault};
 ghost use Rattle.line_check.specs.Matches.{Leaves};
 
 use crate::answers::{Replay, ReplayRef};
-use crate::cursors::{ReplayCursor, is_received, next_replay};
+use crate::cursors::{ReplayCursor, is_received, next_due, next_replay};
 use crate::faults::{CertFault, FaultCode};
 use line_names::{Line, MsgName};
-use line_tape::{History, is_sent_before};
+use line_tape::{History, ReceivedFlags, is_sent_before};
 
 // Whether a message that is sent again is the one that is lent.
 fn is_replay(replay: &Replay, due: &ReplayRef<'_>) -> bool
@@ -42,8 +43,16 @@ struct Match {
 }
 
 // Goes through the messages that are due, and looks for those that are sent again, in their order.
-fn find_replays(history: &History, line: &Line, replays: &[Replay]) -> Match
-    requires { IsLine history.now.processes line.now }
+fn find_replays(
+    history: &History,
+    line: &Line,
+    received: Option<&ReceivedFlags>,
+    replays: &[Replay],
+) -> Match
+    requires line { IsLine history.now.processes line.now }
+    requires told { IfSome received
+        (λ flags. AreTold history.now.processes line.now
+        (events_before history.now.processes line.now) flags.now) }
     ensures left { Leaves (replays_due history.now.processes line.now) replays.now
         (drop result.found replays.now) }
     ensures within { result.found ≤ length replays.now }
@@ -55,7 +64,7 @@ fn find_replays(history: &History, line: &Line, replays: &[Replay]) -> Match
     let mut found = 0;
     let mut whole = true;
     'due: loop {
-        match next_replay(history, line, &mut cursor) {
+        match next_due(history, line, received, &mut cursor) {
             Some(due) => {
                 if is_at(replays, found, &due) {
                     found += 1;
@@ -117,20 +126,25 @@ fn fault_of_replay(history: &History, line: &Line, replay: &Replay) -> FaultCode
     FaultCode::ReplayRepeated
 }
 
-/// Tests the messages that are sent again, one after another, and last whether one is missing.
-pub(crate) fn check_replays(
+// Tests the messages that are sent again: by flags that tell what is received, where there are
+// some.
+fn check_by(
     history: &History,
     line: &Line,
+    received: Option<&ReceivedFlags>,
     replays: &[Replay],
 ) -> Result<(), CertFault>
-    requires { IsLine history.now.processes line.now }
+    requires line { IsLine history.now.processes line.now }
+    requires told { IfSome received
+        (λ flags. AreTold history.now.processes line.now
+        (events_before history.now.processes line.now) flags.now) }
     ensures ok { IsOk result ↔ (replays.now ≡ replays_due history.now.processes line.now) }
     ensures fault { IfErr result
         (IsFaultOfReplays history.now.processes line.now replays.now) }
 {
     // Its limits bound the number of messages in transit.
     let _n = history.n();
-    let Match { found, whole } = find_replays(history, line, replays);
+    let Match { found, whole } = find_replays(history, line, received, replays);
     if found < replays.len() {
         return Err(CertFault {
             entry: Some(found as u32),
@@ -144,4 +158,26 @@ pub(crate) fn check_replays(
         });
     }
     Ok(())
+}
+
+/// Tests the messages that are sent again, one after another, and last whether one is missing.
+///
+/// Where the flags that are lent are enough, what is received before the line is marked there.
+/// Otherwise a receipt is looked up for each send.
+pub(crate) fn check_replays(
+    history: &History,
+    line: &Line,
+    replays: &[Replay],
+    flags: &mut ReceivedFlags,
+) -> Result<(), CertFault>
+    requires { IsLine history.now.processes line.now }
+    ensures ok { IsOk result ↔ (replays.now ≡ replays_due history.now.processes line.now) }
+    ensures fault { IfErr result
+        (IsFaultOfReplays history.now.processes line.now replays.now) }
+{
+    if !flags.is_whole(history, line) {
+        return check_by(history, line, None, replays);
+    }
+    flags.mark(history, line);
+    check_by(history, line, Some(flags), replays)
 }

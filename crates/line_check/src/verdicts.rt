@@ -10,7 +10,7 @@ use crate::faults::{CertFault, FaultCode};
 use crate::replays::check_replays;
 use crate::starts::check_starts;
 use line_names::ProcSet;
-use line_tape::{History, Marks};
+use line_tape::{History, Marks, ReceivedFlags};
 
 /// Tests the whole answer to a recovery, on any history whatever: that its line is the latest for
 /// these marks and this failed set, as its certificate shows; that it says of each process the
@@ -23,13 +23,16 @@ use line_tape::{History, Marks};
 /// the processes go on, process by process, the state before the incarnation; then each message
 /// that is sent again, and last whether one is missing.
 ///
-/// Beside the line it takes time in proportion to the events before the line, with the logarithm of
-/// a process's receipts for each send, and to the messages that are sent again.
+/// It takes no memory beyond the flags that it is lent, whatever they are marked with: those of
+/// `ReceivedFlags::new` for this history are enough. Beside the line it takes time in proportion to
+/// the events before the line and to the messages that are sent again. With fewer flags the answer
+/// is the same, and each send takes the logarithm of a process's receipts.
 pub fn check_answer(
     history: &History,
     marks: &Marks,
     failed: &ProcSet,
     answer: &AnswerRef<'_>,
+    flags: &mut ReceivedFlags,
 ) -> Result<(), CertFault>
     ensures ok { IsOk result
         ↔ IsRightAnswer history.now.processes marks.now failed.now (answer_of_ref answer.now) }
@@ -47,7 +50,7 @@ pub fn check_answer(
     }
     check_certificate(history, marks, failed, answer.line, answer.certificate)?;
     check_starts(history, answer.line, answer.starts)?;
-    match check_replays(history, answer.line, answer.replays) {
+    match check_replays(history, answer.line, answer.replays, flags) {
         Ok(()) => Ok(()),
         Err(fault) => Err(fault),
     }

@@ -18,7 +18,8 @@ use line_check::{AnswerRef, CertFault, FaultCode, check_answer, check_certificat
 use line_claims::{CheckReader, CheckText, TextFault, name_of, number_field};
 use line_devices::{DeviceFault, Sink, Source};
 use line_fields::{Field, RecordWriter, put_fields, put_numbers};
-use std::alloc::Global;
+use line_tape::ReceivedFlags;
+use std::alloc::{AllocError, Global};
 
 // What is wrong with the line and the certificate of a claim, if anything is.
 fn verdict_of_line(check: &CheckText) -> Option<CertFault>
@@ -38,7 +39,7 @@ fn verdict_of_line(check: &CheckText) -> Option<CertFault>
 }
 
 // What is wrong with the whole answer of a claim, if anything is.
-fn verdict_of_answer(check: &CheckText) -> Option<CertFault>
+fn verdict_of_answer(check: &CheckText, flags: &mut ReceivedFlags) -> Option<CertFault>
     ensures { (start : Start) (others : List Start)
         → spec.IsVerdictOn (start ∷ others) (check_view check.now) result }
 {
@@ -52,7 +53,7 @@ fn verdict_of_answer(check: &CheckText) -> Option<CertFault>
         starts,
         replays,
     };
-    match check_answer(&check.history, &claim.marks, &claim.failed, &answer) {
+    match check_answer(&check.history, &claim.marks, &claim.failed, &answer, flags) {
         Ok(()) => None,
         Err(fault) => Some(fault),
     }
@@ -60,15 +61,16 @@ fn verdict_of_answer(check: &CheckText) -> Option<CertFault>
 
 // What is wrong with a claim, if anything is: with its line and certificate where it does not say
 // where the processes go on, and else with the whole answer.
-fn verdict_of(check: &CheckText) -> Option<CertFault>
-    ensures { spec.IsVerdict (check_view check.now) result }
+fn verdict_of(alloc: Global, check: &CheckText) -> Result<Option<CertFault>, AllocError>
+    ensures { IfOk result (spec.IsVerdict (check_view check.now)) }
 {
     let starts = check.claim.starts.as_slice();
     let count = starts.len();
     if count == 0 {
-        return verdict_of_line(check);
+        return Ok(verdict_of_line(check));
     }
-    verdict_of_answer(check)
+    let mut flags = ReceivedFlags::new(alloc, &check.history)?;
+    Ok(verdict_of_answer(check, &mut flags))
 }
 
 // The number of a fault of a claim.
@@ -172,7 +174,8 @@ fn check_of<S: Source>(alloc: Global, source: &mut S) -> Result<CheckText, TextF
 /// nothing written. `ReadFault` says that the source failed or that the input is too long,
 /// `WriteFault` that the sink failed, and the fault 0 that memory did not suffice; these are of
 /// record 0. It takes time and memory in proportion to the input, and keeps the history and the
-/// claim, each once, and of the text no more than the longest line and some 64 KiB.
+/// claim, each once, and of the text no more than the longest line and some 64 KiB; a text of
+/// version 3 takes a byte more for each send.
 pub fn check_text<S: Source, K: Sink>(
     alloc: Global,
     source: &mut S,
@@ -223,7 +226,9 @@ pub fn check_text<S: Source, K: Sink>(
     ensures ended { HearsEnd result (S.ends source.old) (S.ends source.new) }
 {
     let check = check_of(alloc, source)?;
-    let verdict = verdict_of(&check);
+    let Ok(verdict) = verdict_of(alloc, &check) else {
+        return Err(fault_of_code(0));
+    };
     let Ok(mut writer) = RecordWriter::with_room(alloc) else {
         return Err(fault_of_code(0));
     };

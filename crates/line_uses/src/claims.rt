@@ -8,7 +8,7 @@ ghost use Rattle.recline.specs.Survival.{IsLatest};
 ghost use Rattle.recline.specs.WholeAnswers.{IsRightAnswer, answer_of_ref};
 
 use anyhow::Result;
-use recline::check::{AnswerRef, check_answer, check_certificate};
+use recline::check::{AnswerRef, ReceivedFlags, check_answer, check_certificate};
 use recline::plan::Plan;
 use recline::text::write_check_text;
 use recline::{History, Marks, ProcSet};
@@ -37,13 +37,20 @@ pub fn is_latest(history: &History, marks: &Marks, failed: &ProcSet, plan: &Plan
 
 /// Whether a whole answer to a recovery is right, whoever gave it: its line, where each process
 /// goes on, and what is sent again. Who follows a right one has what a restart at its line leaves.
-pub fn is_right(history: &History, marks: &Marks, failed: &ProcSet, answer: &AnswerRef<'_>) -> bool
-    ensures right { IsTrue result
-        ↔ IsRightAnswer history.now.processes marks.now failed.now (answer_of_ref answer.now) }
-    ensures latest { IsTrue result
-        → IsLatest history.now.processes marks.now failed.now answer.now.line.now }
+pub fn is_right(
+    alloc: Global,
+    history: &History,
+    marks: &Marks,
+    failed: &ProcSet,
+    answer: &AnswerRef<'_>,
+) -> Result<bool>
+    ensures right { IfOk result (λ right. IsTrue right
+        ↔ IsRightAnswer history.now.processes marks.now failed.now (answer_of_ref answer.now)) }
+    ensures latest { IfOk result (λ right. IsTrue right
+        → IsLatest history.now.processes marks.now failed.now answer.now.line.now) }
 {
-    check_answer(history, marks, failed, answer).is_ok()
+    let mut flags = ReceivedFlags::new(alloc, history)?;
+    Ok(check_answer(history, marks, failed, answer, &mut flags).is_ok())
 }
 
 /// A history and a plan for it as a check text, which `recline check` judges.

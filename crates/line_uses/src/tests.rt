@@ -139,7 +139,7 @@ fn judge_answer(alloc: Global, inc: u16, is_sent_again: bool) -> Result<bool, Fa
         starts: starts.as_slice(),
         replays: replays.as_slice(),
     };
-    Ok(is_right(&history, &marks, &failed, &answer))
+    Ok(is_right(alloc, &history, &marks, &failed, &answer)?)
 }
 
 #[test]

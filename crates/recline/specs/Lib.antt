@@ -12,6 +12,7 @@ pub use Rattle.line_tape.specs.Fit
 pub use Rattle.line_tape.specs.Front
 pub use Rattle.line_tape.specs.History
 pub use Rattle.line_tape.specs.Line
+pub use Rattle.line_tape.specs.Received
 pub use Rattle.line_tape.specs.Restart
 pub use Rattle.line_tape.specs.Rounds
 pub use Rattle.line_tape.specs.Shown as EventShown

@@ -27,7 +27,8 @@ pub mod plan {
 }
 
 /// Judge a line, a line with its certificate, or the whole answer to a recovery from the history
-/// alone, whoever made it. No call takes memory, and none trusts the planner.
+/// alone, whoever made it. None trusts the planner, and no call takes memory but
+/// `ReceivedFlags::new`, whose flags are lent to `check_answer`.
 ///
 /// Begin with `check_answer`, `check_certificate` or `check_consistent`. The laws say what a right
 /// answer and a certificate show. `next_replay` walks over what is sent again.
@@ -38,6 +39,7 @@ pub mod check {
         right_answers_restart,
     };
     pub use line_laws::{chain_makes_latest, chain_passes_each, latest_is_unique, now_is_latest};
+    pub use line_tape::ReceivedFlags;
 }
 
 /// Drive a world: processes that send, receive, take checkpoints, make snapshots in rounds, fail

@@ -8,7 +8,7 @@ use Rattle.line_check.specs.Answers.{replays_due}
 use Rattle.line_check.specs.Faults.{ArePartOf, wrong, missing}
 use Rattle.line_check.proofs.CursorLemmas.{few-due}
 use Rattle.line_check.proofs.MatchLemmas.{found-part, found-most, found-all, front-part}
-use Rattle.line_check.proofs.replays.check_replays.Goals as goal
+use Rattle.line_check.proofs.replays.check_by.Goals as goal
 
 pub overflow_cast-result : goal.overflow_cast-result
 overflow_cast-result c =
