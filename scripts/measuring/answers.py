@@ -106,9 +106,9 @@ def timed(program: str, texts: list[Text], runs: int) -> float:
     for text in texts:
         times = took[text.version]
         found = (min(times), statistics.median(times), max(times))
-        memory = memory(program, "check", text.path)
+        held = memory(program, "check", text.path)
         row([str(text.version), f"{text.path.stat().st_size:,}",
-                           *(f"{it:.3f}" for it in found), f"{memory:,.0f}"])
+                           *(f"{it:.3f}" for it in found), f"{held:,.0f}"])
     return min(took[3]) / min(took[2])
 
 
