@@ -3,11 +3,10 @@
 //! Process 1 sends three messages to process 0 and takes its check after the second one. Process 0
 //! receives the first, takes two checks, and receives the others. At the last checks the second
 //! message is in transit, so only the first one is let go.
-use crate::{ForgetError, OwnedFloor, cut_catalogue, floor_at, forget_round};
+use crate::{OwnedFloor, cut_catalogue, floor_at};
 use line_catalogue::Catalogue;
 use line_names::{Body, Choice, Line, MsgName, ProcId};
 use line_tape::{Event, State, is_line};
-use line_world::{Mode, Step, World};
 use std::alloc::Global;
 use std::test::Fail;
 
@@ -149,68 +148,5 @@ fn has_no_floor(alloc: Global) -> Result<bool, Fail> {
 #[test]
 fn the_present_is_no_floor(rt: HostRuntime) -> Result<(), Fail> {
     assert!(rt; has_no_floor(rt.alloc())?);
-    Ok(())
-}
-
-/// Process 1 sends to process 0.
-fn send() -> Result<Step, Fail> {
-    let body = Body::try_new(b"a")?;
-    let (from, to) = (process(1)?, process(0)?);
-    Ok(Step::Send { from, to, body })
-}
-
-/// The other process takes what is first on its link from this one.
-fn deliver(alloc: Global, from: u32) -> Result<Step, Fail> {
-    let state = State::of(Vec::new(alloc));
-    let (from, to) = (process(from)?, process(1 - from)?);
-    let pick = 0;
-    Ok(Step::Deliver {
-        from,
-        to,
-        pick,
-        state,
-    })
-}
-
-/// A message that is received before a round, one that is in transit at its checks, and the round.
-fn steps_of_a_round(alloc: Global) -> Result<Vec<Step>, Fail> {
-    let (at, state) = (process(0)?, State::of(Vec::new(alloc)));
-    let mut steps = vec![in alloc; send()?, deliver(alloc, 1)?, Step::Begin { at, state }]?;
-    steps.push(send()?)?;
-    steps.push(deliver(alloc, 0)?)?;
-    steps.push(deliver(alloc, 1)?)?;
-    steps.push(deliver(alloc, 1)?)?;
-    Ok(steps)
-}
-
-/// What is let go before the checks of that round, and whether it stays listed; or the number of
-/// the refusal.
-fn forgotten(alloc: Global, number: u32) -> Result<([u32; 4], usize), Fail> {
-    let mut world = World::new(alloc, 2, Mode::Fifo)?;
-    let _answers = world.run(alloc, &steps_of_a_round(alloc)?)?;
-    match forget_round(alloc, &world, number) {
-        Ok((floor, left)) => {
-            let (p, q) = (process(0)?, process(1)?);
-            let told = [
-                floor.check(p),
-                floor.check(q),
-                floor.sends(p),
-                floor.sends(q),
-            ];
-            Ok((told, left.rounds().len()))
-        }
-        Err(e) => Ok(([e.code(), 0, 0, 0], 0)),
-    }
-}
-
-#[test]
-fn a_listed_round_is_a_floor(rt: HostRuntime) -> Result<(), Fail> {
-    assert!(rt; forgotten(rt.alloc(), 1)? == ([1, 1, 0, 1], 1));
-    Ok(())
-}
-
-#[test]
-fn a_round_that_is_not_listed_is_none(rt: HostRuntime) -> Result<(), Fail> {
-    assert!(rt; forgotten(rt.alloc(), 2)? == ([ForgetError::NoSuchRound.code(), 0, 0, 0], 0));
     Ok(())
 }
