@@ -1,13 +1,12 @@
 -- What a report is answered, and what is collected then.
-use Rattle.std.specs.Prelude.{◌≡◌, ◌≢◌, ℕ, ◌==◌, Bool, if◌then◌else◌, List, [], ◌∷◌, ◌++◌}
+use Rattle.std.specs.Prelude.{◌≡◌, ◌≢◌, ℕ, Bool, List, [], ◌∷◌, ◌++◌}
 use Rattle.std.specs.Prelude.{length, map, codes, decimal, None, Result, Ok, Err}
 use Rattle.std.specs.List.{range_with_len}
 use Rattle.line_answers.specs.Answers.{IsEverybody}
 use Rattle.line_answers.specs.Replies.{barred_record, checked_record, damaged_record, pass_records}
 use Rattle.line_answers.specs.Replies.{process_record, recovered_record, replay_records}
-use Rattle.line_answers.specs.Replies.{sent_record, took_record}
+use Rattle.line_answers.specs.Replies.{refusal_record, sent_record, took_record}
 use Rattle.line_claims.specs.Claims.{Claim}
-use Rattle.line_claims.specs.Faults.{name_of}
 use Rattle.line_claims.specs.Numbers.{none_text}
 use Rattle.line_claims.specs.Records.{check_records, history_records, in_order}
 use Rattle.line_fields.specs.Records.{Record}
@@ -30,14 +29,6 @@ use Rattle.line_collect.specs.declared.tellings.Told.TheVariants as tolds
 use Rattle.line_collect.specs.Collections.{CollectionView, IsPlanOf, IsPlanToGoBack, gone_back}
 use Rattle.line_collect.specs.Collections.{with_report}
 use Rattle.line_collect.specs.Refusals.{IsRefusedBy, refusal_of_report, report_error_code}
-
--- the name of a refusal: StaleReport has one that no text before reports has
-abbrev pub report_refusal_name : ℕ → List ℕ
-report_refusal_name code = if code == 47 then codes "StaleReport" else name_of code
-
--- refused,CODE,NAME
-abbrev pub report_refusal_record : ℕ → Record
-report_refusal_record code = codes "refused" ∷ decimal code ∷ report_refusal_name code ∷ []
 
 -- marked,ROUND,-
 abbrev pub mark_taken_record : ℕ → Record
@@ -127,7 +118,7 @@ pub data ReportAnswer : Type 0 where
 
 -- the records of an answer
 abbrev pub report_answer_records : ReportAnswer → List Record
-report_answer_records (Refused code) = report_refusal_record code ∷ []
+report_answer_records (Refused code) = refusal_record code ∷ []
 report_answer_records (Given records) = records
 
 -- a report may be answered so, and leaves new

@@ -13,10 +13,10 @@ ghost use Rattle.line_collect.specs.Shown.{report_of_ref};
 
 use crate::collections::Collection;
 use crate::plan_records::put_plan_records;
-use crate::refusals::{CollectError, report_refusal_name};
+use crate::refusals::CollectError;
 use crate::reports::ReportRef;
 use crate::tellings::Told;
-use line_answers::everybody;
+use line_answers::{everybody, put_refusal};
 use line_claims::{earliest_version, numbers_of, put_check_text, put_history};
 use line_conversations::{Outcome, Stop};
 use line_devices::{DeviceFault, Sink};
@@ -70,20 +70,6 @@ fn put_told<K: Sink>(
     }
 }
 
-/// Writes `refused,CODE,NAME`.
-fn put_report_refusal<K: Sink>(
-    sink: &mut K,
-    writer: &mut RecordWriter,
-    code: u32,
-) -> Result<(), DeviceFault>
-    ensures { Outputs result (K.taken sink.old) (K.taken sink.new) (K.faults sink.old)
-        (K.faults sink.new) writer.new
-        (writer.old ++ record_text (spec.report_refusal_record code)) }
-{
-    let name = Field::Word(report_refusal_name(code));
-    put_ending(sink, writer, b"refused", &[code as u64], name)
-}
-
 /// Writes what became of a report, or its refusal. Where memory was out nothing is written.
 fn tell<K: Sink>(
     sink: &mut K,
@@ -98,7 +84,7 @@ fn tell<K: Sink>(
         Ok(told) => outcome_if_written(put_told(sink, writer, &told), Outcome::Done),
         Err(CollectError::OutOfMemory) => Err(Stop::Fault(ReadError::OutOfMemory)),
         Err(error) => {
-            let put = put_report_refusal(sink, writer, error.code());
+            let put = put_refusal(sink, writer, error.code());
             outcome_if_written(put, Outcome::Refused)
         }
     }
@@ -259,7 +245,7 @@ pub(crate) fn answer_report<K: Sink>(
         ReportRef::History => put_collected(collection, sink, writer),
         ReportRef::Bundle(failed) => put_bundle(alloc, collection, sink, writer, failed),
         ReportRef::Refused(code) => {
-            let put = put_report_refusal(sink, writer, *code);
+            let put = put_refusal(sink, writer, *code);
             outcome_if_written(put, Outcome::Refused)
         }
     }

@@ -1,10 +1,8 @@
 //! Why a report is not taken.
 
 ghost use Rattle.std.specs.Prelude.{◌≡◌, ◌↔◌, IsTrue};
-ghost use Rattle.line_collect.specs.Answers.{report_refusal_name};
 ghost use Rattle.line_collect.specs.Refusals.{report_error_code};
 
-use line_claims::name_of;
 use line_names::MOST_BODY;
 use line_tape::{LAST_INCARNATION, MOST_EVENTS, MOST_STATE};
 use std::alloc::AllocError;
@@ -61,17 +59,6 @@ impl CollectError {
         ensures { result ≡ report_error_code self }
     {
         self as u32
-    }
-}
-
-/// The name that stands beside the number of a refusal.
-pub(crate) fn report_refusal_name(code: u32) -> &'static [u8]
-    ensures { result.now ≡ report_refusal_name code }
-{
-    if code == 47 {
-        b"StaleReport"
-    } else {
-        name_of(code).as_bytes()
     }
 }
 

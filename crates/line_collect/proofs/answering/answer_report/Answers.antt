@@ -1,6 +1,7 @@
 use Rattle.std.proofs.Common.{refl, inl}
+use Rattle.line_answers.specs.Replies.{refusal_record}
 use Rattle.line_fields.proofs.OutletLemmas.{one_text}
-use Rattle.line_collect.specs.Answers.{Refused, report_refusal_record}
+use Rattle.line_collect.specs.Answers.{Refused}
 use Rattle.line_collect.proofs.AnswerLemmas.{does_written}
 use Rattle.line_collect.proofs.answering.answer_report.Goals as goal
 
@@ -40,4 +41,4 @@ returns-in-Bundle g c = rw c.in-Bundle.is c.put_bundle.ensures
 pub returns-in-Refused : goal.returns-in-Refused
 returns-in-Refused g c =
     rw (c.in-Refused.is, c.outcome_if_written.ensures)
-    (does_written _ _ _ (Refused c.in-Refused.code) _ _ _ _ _ _ _ _ _ (inl refl, refl) refl (one_text (report_refusal_record c.in-Refused.code)) c.put_report_refusal-put.ensures)
+    (does_written _ _ _ (Refused c.in-Refused.code) _ _ _ _ _ _ _ _ _ (inl refl, refl) refl (one_text (refusal_record c.in-Refused.code)) c.put_refusal-put.ensures)

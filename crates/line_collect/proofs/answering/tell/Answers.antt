@@ -1,8 +1,9 @@
 use Rattle.std.proofs.Common.{rules, ◌≢◌, ◌∷◌, [], ◌∙◌, ℕ, ap, refl, sym}
+use Rattle.line_answers.specs.Replies.{refusal_record}
 use Rattle.line_fields.proofs.OutletLemmas.{one_text}
 use Rattle.line_fields.specs.Texts.{record_text}
 use Rattle.line_collect.specs.declared.refusals.CollectError.TheVariants as errors
-use Rattle.line_collect.specs.Answers.{Given, Refused, report_refusal_record, told_record}
+use Rattle.line_collect.specs.Answers.{Given, Refused, told_record}
 use Rattle.line_collect.specs.Refusals.{report_error_code}
 use Rattle.line_collect.proofs.AnswerLemmas.{does_written}
 use Rattle.line_collect.proofs.answering.tell.Goals as goal
@@ -18,4 +19,4 @@ returns-in-Err g c old new report takes =
     let refused = rw c.in-Err.is at takes in
     rw c.outcome_if_written-in-Err.ensures
     (does_written old new report (Refused (report_error_code c.in-Err.error)) _ _ _ _ _ _ _ _ _ (refused.1 differs, refused.0) refl
-    (one_text (report_refusal_record (report_error_code c.in-Err.error)) ∙ ap (λ (i : ℕ). record_text (report_refusal_record i)) (sym c.code.ensures)) c.put_report_refusal-put.ensures)
+    (one_text (refusal_record (report_error_code c.in-Err.error)) ∙ ap (λ (i : ℕ). record_text (refusal_record i)) (sym c.code.ensures)) c.put_refusal-put.ensures)
