@@ -12,3 +12,5 @@ pub mod RunLemmas
 pub mod ResumeLemmas
 pub mod GrowthFacts
 pub mod SoundFacts
+pub mod WalkLemmas
+pub mod IdleLemmas

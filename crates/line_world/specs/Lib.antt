@@ -6,3 +6,5 @@ pub mod Runs
 pub mod Marked
 pub mod Sound
 pub mod Protocols
+pub mod Idle
+pub mod Deliveries

@@ -9,11 +9,13 @@
 //! not (Lai and Yang, Information Processing Letters 25(3), 1987).
 #![tactic(auto)]
 
+mod idle;
 mod laws;
 mod protocols;
 mod replies;
 mod worlds;
 
+pub use idle::is_idle;
 pub use laws::{runs_keep_rounds, runs_name_apart};
 pub use line_moves::Round;
 pub use line_steps::{Mode, Step, StepRef};

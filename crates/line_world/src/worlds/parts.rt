@@ -1,13 +1,16 @@
 //! The parts of a world, and a world that is made of them.
-ghost use Rattle.std.specs.Prelude.{◌≡◌, ◌≤◌, ◌+◌, [], ℕ, All, IfOk, IsTrue, replicate};
+ghost use Rattle.std.specs.Prelude.{◌≡◌, ◌≤◌, ◌+◌, [], ℕ, All, IfOk, IsTrue, false};
+ghost use Rattle.std.specs.Prelude.{replicate};
 ghost use Rattle.line_names.specs.declared.choices.Choice.TheVariants.{Now};
 ghost use Rattle.line_names.specs.declared.limits.TheConstants.{MOST_PROCESSES};
 ghost use Rattle.line_steps.specs.declared.modes.Mode.TheVariants.{Fifo};
 ghost use Rattle.line_tape.specs.Fit.{IsFitFifo};
 ghost use Rattle.line_tape.specs.History.{tape_at};
-ghost use Rattle.line_tape.specs.Rounds.{has_check_of, rounds_checked};
+ghost use Rattle.line_tape.specs.Rounds.{has_check_of};
 ghost use Rattle.line_moves.specs.Listed.{IsSnapshotOf};
 ghost use Rattle.line_moves.specs.Worlds.{AreNumbered, IsWorld};
+ghost use Rattle.line_world.specs.Idle.{AreMarkersReceived, IsIdle};
+ghost use Rattle.line_world.specs.Machine.{is_open};
 
 use super::World;
 use crate::protocols::Protocol;
@@ -29,10 +32,10 @@ fn present_line(n: u32) -> Line
     line
 }
 
-/// The links of processes of which none has begun a round: what was sent on each and not received.
+/// The links of processes that have received every marker: what was sent on each and not received.
 fn present_links(alloc: Global, catalogue: &Catalogue) -> Result<Links, AllocError>
     requires fit { IsFitFifo catalogue.now.processes }
-    requires unbegun { (p : ℕ) → rounds_checked (tape_at catalogue.now.processes p) ≡ [] }
+    requires received { AreMarkersReceived catalogue.now.processes }
     ensures { IfOk result (λ links. IsWorld Fifo catalogue.now.processes links) }
 {
     let n = catalogue.n();
@@ -45,18 +48,19 @@ fn present_links(alloc: Global, catalogue: &Catalogue) -> Result<Links, AllocErr
 
 impl World {
     /// The world of processes that go on from what they have done, over links that keep their
-    /// order, where no round is on a tape: each link holds what was sent on it and not received.
+    /// order, where no round is open (`is_idle`): each link holds what was sent on it and not
+    /// received.
     ///
-    /// `last_round` is the number of the last round that was begun before; the listed rounds are no
-    /// later. It looks at what is in transit, and makes a queue for each pair of processes.
+    /// `last_round` is the number of the last round that was begun before; the rounds on the tapes
+    /// and the listed ones are no later. It looks at what is in transit, and makes a queue for each
+    /// pair of processes.
     pub fn resume(
         alloc: Global,
         catalogue: Catalogue,
         last_round: u32,
         rounds: Listing,
     ) -> Result<World, AllocError>
-        requires fit { IsFitFifo catalogue.processes }
-        requires unbegun { (p : ℕ) → rounds_checked (tape_at catalogue.processes p) ≡ [] }
+        requires idle { IsIdle catalogue.processes last_round }
         requires snapshots { All (IsSnapshotOf catalogue.processes) rounds.items }
         requires numbered { AreNumbered (last_round + 1) rounds.items }
         ensures { IfOk result (λ world. world ≡ record {
@@ -97,12 +101,15 @@ impl World {
         }
     }
 
-    /// The number of the last round that was begun; 0 where none was.
+    /// The number of the last round that was begun; 0 where none was. Where links keep their order
+    /// and no round is open, a world that is made of the same tapes goes on from there (`resume`).
     pub fn last_round(&self) -> u32
         ensures value { result ≡ self.now.last_round }
         ensures greatest { (p r : ℕ) → IsTrue (has_check_of r (tape_at self.now.history p))
             → r ≤ self.now.last_round }
         ensures numbered { AreNumbered (self.now.last_round + 1) self.now.rounds }
+        ensures idle { self.now.mode ≡ Fifo → is_open self.now ≡ false
+            → IsIdle self.now.history self.now.last_round }
     {
         self.last_round
     }

@@ -6,7 +6,7 @@ use Rattle.line_tape.specs.declared.items.Item.{Item}
 use Rattle.line_tape.specs.declared.items.Item.TheVariants.{Message}
 use Rattle.line_tape.specs.History.{Process}
 use Rattle.line_tape.specs.Line.{IsLine}
-use Rattle.line_tape.specs.Transit.{in_transit, in_transit_between}
+use Rattle.line_tape.specs.Transit.{in_transit_between}
 use Rattle.line_colours.specs.Tables.{between}
 use Rattle.line_moves.specs.Worlds.{AreQueues}
 use Rattle.line_world.proofs.ResumeLemmas.{empty_queues, present_is, present_world}
@@ -30,6 +30,6 @@ returns c =
     let line_is : c.present_line-line.result ≡ replicate (length history) Now = c.present_line-line.ensures ∙ ap (λ (n : ℕ). replicate n Now) c.n-n.ensures.value in
     let told : (p q : ℕ) → p < length history → q < length history → between queues p q ≡ map (λ m. Message m) (in_transit_between history c.present_line-line.result p q) =
     subst (λ (h : List Process). (p q : ℕ) → p < length h → q < length h → between queues p q ≡ map (λ m. Message m) (in_transit_between h c.present_line-line.result p q)) c.history.ensures.processes c.in_ok-restart_links.ensures.put in
-    present_world history c.requires.fit c.requires.unbegun queues
+    present_world history queues c.requires.fit c.requires.received
     (subst (λ (h : List Process). AreQueues h queues) c.history.ensures.processes c.in_ok-restart_links.ensures.queued)
     (subst (λ (line : List Choice). (p q : ℕ) → p < length history → q < length history → between queues p q ≡ map (λ m. Message m) (in_transit_between history line p q)) line_is told)
