@@ -15,4 +15,9 @@ pub mod AgreementCuts
 pub mod LaterFloors
 pub mod SnapshotCuts
 pub mod RoundCuts
+pub mod AddedLemmas
+pub mod MarkedCuts
+pub mod FloorLemmas
+pub mod SameLemmas
+pub mod WholeLemmas
 pub mod Example

@@ -47,7 +47,7 @@ floor_line floor = check_line floor.checks
 abbrev pub is_left : Floor → MsgName → Bool
 is_left floor message = nat_le (lost_sends floor message.from) message.number
 
--- the name of a message in what is left, and back
+-- the name of a message in what is left
 abbrev pub cut_name : Floor → MsgName → MsgName
 cut_name floor message = record {
   from = message.from;
@@ -55,6 +55,7 @@ cut_name floor message = record {
   number = message.number - lost_sends floor message.from;
 }
 
+-- and back: the name of a message of what is left, in the whole
 abbrev pub whole_name : Floor → MsgName → MsgName
 whole_name floor message = record {
   from = message.from;
@@ -117,11 +118,12 @@ cut_checks floor indices =
     map (λ p. slice_index_or indices p 0 - lost_checks floor p)
     (range_with_len 0 (length indices))
 
--- a choice of process p in what is left, and back: none is before the floor
+-- a choice of process p in what is left
 abbrev pub cut_choice : Floor → ℕ → Choice → Choice
 cut_choice floor p (AtCheck c) = AtCheck (c - lost_checks floor p)
 cut_choice floor p Now = Now
 
+-- a choice of process p of what is left, in the whole: none is before the floor
 abbrev pub whole_choice : Floor → ℕ → Choice → Choice
 whole_choice floor p (AtCheck c) = AtCheck (max (c + lost_checks floor p) (floor_check floor p))
 whole_choice floor p Now = Now
@@ -130,6 +132,7 @@ abbrev pub cut_line : Floor → List Choice → List Choice
 cut_line floor line =
     map (λ p. cut_choice floor p (choice_at line p)) (range_with_len 0 (length line))
 
+-- a line of what is left, in the whole
 abbrev pub whole_line : Floor → List Choice → List Choice
 whole_line floor line =
     map (λ p. whole_choice floor p (choice_at line p)) (range_with_len 0 (length line))

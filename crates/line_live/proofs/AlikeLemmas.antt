@@ -37,9 +37,9 @@ use Rattle.line_lives.proofs.LaterLives.{beside_later, further_later}
 use Rattle.line_lives.proofs.StepLives.{step_alike}
 use Rattle.line_lives.proofs.TwoForgets.{machine_both}
 use Rattle.line_live.specs.Machines.{IsAnsweredAlike, IsAnsweredAsWhole, IsSameMachine}
-use Rattle.line_live.specs.Marks.{AreSameMarks}
-use Rattle.line_live.proofs.MarkedCuts.{damaged_left, length_damaged}
-use Rattle.line_live.proofs.SameLemmas.{chain_same, latest_line_same, survives_same}
+use Rattle.line_cuts.specs.Marks.{AreSameMarks}
+use Rattle.line_cuts.proofs.MarkedCuts.{damaged_left, length_damaged}
+use Rattle.line_cuts.proofs.SameLemmas.{chain_same, latest_line_same, survives_same}
 
 -- a list of checks has one
 abbrev has : List ℕ → ℕ → Bool

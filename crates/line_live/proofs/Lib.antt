@@ -1,9 +1,12 @@
-pub mod AddedLemmas
-pub mod MarkedCuts
-pub mod FloorLemmas
-pub mod SameLemmas
-pub mod WholeLemmas
 pub mod ListedCuts
 pub mod AlikeLemmas
 pub mod ForgetLemmas
 pub mod LiveFloors
+pub mod ShapedMachines
+pub mod MappedItems
+pub mod FirstFloors
+pub mod FewNumbers
+pub mod WholeLives
+pub mod LiveRuns
+pub mod LiveSteps
+pub mod ResumedLemmas

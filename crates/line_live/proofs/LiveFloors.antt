@@ -13,8 +13,8 @@ use Rattle.line_tape.specs.Survival.{survives, is_allowed, IsLatest}
 use Rattle.line_tape.specs.Views.{MarksView, bar_at}
 use Rattle.line_laws.proofs.KeptLemmas.{choice_of_checks}
 use Rattle.line_cuts.specs.Cuts.{FloorSurvives}
-use Rattle.line_live.specs.Floors.{check_index_of, floor_of_line, IsOfChecks}
-use Rattle.line_live.proofs.FloorLemmas.{line_of_checks}
+use Rattle.line_cuts.specs.Floors.{check_index_of, floor_of_line, IsOfChecks}
+use Rattle.line_cuts.proofs.FloorLemmas.{line_of_checks}
 use Rattle.line_live.proofs.ForgetLemmas.{whoever}
 
 module _ (history : List Process) (marks : MarksView) (failed : List Bool) (line : List Choice) (all : (p : ℕ) → p < length history → is_member failed p ≡ true) (latest : IsLatest history marks failed line) where

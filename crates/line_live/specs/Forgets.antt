@@ -15,7 +15,7 @@ use Rattle.line_cuts.specs.Cuts.{Floor, FloorSurvives, IsFloor}
 use Rattle.line_live.specs.declared.refusals.ForgetError.{ForgetError}
 use Rattle.line_live.specs.declared.refusals.ForgetError.TheVariants.{WrongMode, RoundOpen}
 use Rattle.line_live.specs.declared.refusals.ForgetError.TheVariants.{NoSuchRound, RoundLost}
-use Rattle.line_live.specs.Floors.{floor_of_line}
+use Rattle.line_cuts.specs.Floors.{floor_of_line}
 
 -- the first of some listed rounds that has this number
 abbrev pub listed_of : List ListedRound → ℕ → Option ListedRound

@@ -1,5 +1,6 @@
-pub mod Floors
-pub mod Left
-pub mod Marks
 pub mod Machines
 pub mod Forgets
+pub mod Lives
+pub mod Lived
+pub mod Numbers
+pub mod Resumed

@@ -6,7 +6,7 @@ use Rattle.line_world.specs.Machine.{Machine}
 use Rattle.line_world.specs.Runs.{Takes}
 use Rattle.line_cuts.specs.Cuts.{Floor}
 use Rattle.line_lives.specs.Lives.{cut_machine, whole_answer, IsBeside, TakesWithRoom}
-use Rattle.line_live.specs.Marks.{AreSameMarks}
+use Rattle.line_cuts.specs.Marks.{AreSameMarks}
 
 -- they are the same but for that order
 pub record IsSameMachine (machine other : Machine) : Type 0 where

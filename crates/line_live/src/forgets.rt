@@ -5,17 +5,16 @@ ghost use Rattle.line_steps.specs.declared.modes.Mode.TheVariants.{Fifo};
 ghost use Rattle.line_tape.specs.Rounds.{check_line};
 ghost use Rattle.line_moves.specs.Listed.{ListedRound, IsSnapshotOf};
 ghost use Rattle.line_cuts.specs.Cuts.{IsFloor};
+ghost use Rattle.line_cuts.specs.Floors.{floor_of_line};
 ghost use Rattle.line_lives.specs.Lives.{cut_machine};
-ghost use Rattle.line_live.specs.Floors.{floor_of_line};
 ghost use Rattle.line_live.specs.Forgets.{forget_refusal, is_safe, listed_of, IsFloorAt};
 ghost use Rattle.line_live.specs.Forgets.{IsFloorOfRound};
 ghost use Rattle.line_live.specs.Machines.{IsSameMachine};
 
-use crate::floors::OwnedFloor;
-use crate::found_floors::floor_at;
 use crate::listed::line_of_checks;
 use crate::refusals::ForgetError;
 use crate::worlds::cut_world;
+use line_cuts::{OwnedFloor, floor_at};
 use line_moves::Round;
 use line_names::{Choice, ProcId, ProcSet};
 use line_steps::Mode;
@@ -70,17 +69,10 @@ fn floor_of_round(alloc: Global, world: &World, round: &Round) -> Result<OwnedFl
     }
 }
 
-/// Lets go what stands before a listed round of a world whose links keep their order, if its checks
-/// survive.
-fn forget_listed(
-    alloc: Global,
-    world: &World,
-    round: &Round,
-) -> Result<(OwnedFloor, World), ForgetError>
-    requires fifo { world.now.mode ≡ Fifo }
+/// The floor at the checks of a listed round of a world, if they survive.
+fn surviving_floor(alloc: Global, world: &World, round: &Round) -> Result<OwnedFloor, ForgetError>
     requires snapshot { IsSnapshotOf world.now.history round.now }
-    ensures floor { IfOk result (λ left. IsFloorAt world.now round.now left.0) }
-    ensures left { IfOk result (λ left. IsSameMachine left.1 (cut_machine left.0 world.now)) }
+    ensures floor { IfOk result (λ floor. IsFloorAt world.now round.now floor) }
     ensures safe { OnOk result (is_safe world.now round.now ≡ true) }
     ensures refused { IfErr result (λ e. e ≢ ForgetError.OutOfMemory
         → (is_safe world.now round.now ≡ false) × (e ≡ ForgetError.RoundLost)) }
@@ -91,8 +83,36 @@ fn forget_listed(
         return Err(ForgetError::RoundLost);
     }
     let floor = floor_of_round(alloc, world, round)?;
-    let left = cut_world(alloc, world, &floor)?;
-    Ok((floor, left))
+    Ok(floor)
+}
+
+/// The floor at the checks of the listed round of this number, if a world lets go what stands
+/// before it.
+pub(crate) fn round_floor(
+    alloc: Global,
+    world: &World,
+    number: u32,
+) -> Result<OwnedFloor, ForgetError>
+    ensures floor { IfOk result (λ floor. IsFloorOfRound world.now number floor) }
+    ensures done { OnOk result (forget_refusal world.now number ≡ None) }
+    ensures refused { IfErr result (λ e. e ≢ ForgetError.OutOfMemory
+        → forget_refusal world.now number ≡ Some e) }
+    ensures memory { IsErrOf result ForgetError.OutOfMemory
+        → forget_refusal world.now number ≡ None }
+{
+    match world.mode() {
+        Mode::Unordered => Err(ForgetError::WrongMode),
+        Mode::Fifo => {
+            if world.is_open() {
+                return Err(ForgetError::RoundOpen);
+            }
+            let rounds = world.rounds();
+            match place_of(rounds, number) {
+                Some(i) => surviving_floor(alloc, world, &rounds[i]),
+                None => Err(ForgetError::NoSuchRound),
+            }
+        }
+    }
 }
 
 /// Lets go what stands before the checks of the listed round of this number, and the rounds before
@@ -115,17 +135,7 @@ pub fn forget_round(
     ensures memory { IsErrOf result ForgetError.OutOfMemory
         → forget_refusal world.now number ≡ None }
 {
-    match world.mode() {
-        Mode::Unordered => Err(ForgetError::WrongMode),
-        Mode::Fifo => {
-            if world.is_open() {
-                return Err(ForgetError::RoundOpen);
-            }
-            let rounds = world.rounds();
-            match place_of(rounds, number) {
-                Some(i) => forget_listed(alloc, world, &rounds[i]),
-                None => Err(ForgetError::NoSuchRound),
-            }
-        }
-    }
+    let floor = round_floor(alloc, world, number)?;
+    let left = cut_world(alloc, world, &floor)?;
+    Ok((floor, left))
 }

@@ -1,11 +1,5 @@
-//! Laws of marks that differ in their order alone, and of machines with such marks.
-ghost use Rattle.std.specs.Prelude.{◌≡◌, ◌<◌, ◌≤◌, ℕ, Bool, false, All, List, None, length};
-ghost use Rattle.line_names.specs.declared.certificates.Passed.{Passed};
-ghost use Rattle.line_names.specs.declared.choices.Choice.{Choice};
-ghost use Rattle.line_tape.specs.Chain.{IsChain};
-ghost use Rattle.line_tape.specs.History.{Process};
-ghost use Rattle.line_tape.specs.Survival.{survives, IsLatest};
-ghost use Rattle.line_tape.specs.Views.{MarksView};
+//! Laws of machines whose marks differ in their order alone, and of what is left of machines.
+ghost use Rattle.std.specs.Prelude.{◌≡◌, ◌<◌, ◌≤◌, ℕ, false, All, None, length};
 ghost use Rattle.line_cuts.specs.Cuts.{floor_check, whole_floor, Floor, FloorSurvives, IsFloor};
 ghost use Rattle.line_moves.specs.Listed.{IsSnapshotOf};
 ghost use Rattle.line_steps.specs.declared.steps.Step.{Step};
@@ -17,24 +11,6 @@ ghost use Rattle.line_lives.specs.Lives.{cut_machine, cut_step, IsBeside, MayFor
 ghost use Rattle.line_live.specs.Forgets.{forget_refusal, idle_refusal, IsFloorOfRound};
 ghost use Rattle.line_live.specs.Forgets.{IsFloorWhereAllFail};
 ghost use Rattle.line_live.specs.Machines.{IsAnsweredAlike, IsAnsweredAsWhole, IsSameMachine};
-ghost use Rattle.line_live.specs.Marks.{AreSameMarks};
-
-/// Which choices survive, which line is the latest and which chains are valid does not depend on
-/// the order in which marks were made.
-///
-/// The call does nothing: its contract is the law.
-pub fn same_marks_plan_alike()
-    ensures survives { (history : List Process) (marks others : MarksView) (failed : List Bool)
-        (p : ℕ) (choice : Choice) → AreSameMarks marks others
-        → survives history marks failed p choice ≡ survives history others failed p choice }
-    ensures latest { (history : List Process) (marks others : MarksView) (failed : List Bool)
-        (line : List Choice) → AreSameMarks marks others
-        → IsLatest history marks failed line → IsLatest history others failed line }
-    ensures chain { (history : List Process) (marks others : MarksView) (failed : List Bool)
-        (entries : List Passed) (line : List Choice) → AreSameMarks marks others
-        → IsChain history marks failed entries line
-        → IsChain history others failed entries line }
-{}
 
 /// What a machine answers to a step, and what it goes on to, does not depend on the order in which
 /// marks were made.

@@ -1,35 +1,31 @@
-//! Code that lets go what stands before a line of checks: the floor there, and what is left of a
-//! history, of its marks and of a catalogue of both.
+//! The machine that lets go what stands before a line of checks, and the code by which what is left
+//! becomes a world of its own.
 #![tactic(auto)]
 
-mod catalogues;
-mod floors;
 mod forgets;
-mod found_floors;
-mod histories;
+mod kept_steps;
 mod laws;
-mod left_events;
+mod life_laws;
 mod listed;
 mod live_floors;
-mod marked;
+mod lives;
 mod refusals;
-mod whole_floors;
+mod resumed;
+mod whole_names;
 mod worlds;
 
-pub use catalogues::cut_catalogue;
-pub use floors::OwnedFloor;
 pub use forgets::forget_round;
-pub use found_floors::floor_at;
-pub use histories::cut_history;
 pub use laws::{
     found_floors_may_be_taken, kept_machines_answer_as_whole, kept_machines_let_go_further,
-    same_machines_answer_alike, same_marks_plan_alike,
+    same_machines_answer_alike,
+};
+pub use life_laws::{live_steps_answer_as_whole, lives_answer_as_whole};
+pub use line_cuts::{
+    MOST_LET_GO, OwnedFloor, cut_catalogue, cut_history, cut_marks, floor_at,
+    same_marks_plan_alike, whole_floor,
 };
 pub use live_floors::forget_live;
-pub use marked::cut_marks;
-pub use refusals::ForgetError;
-pub use whole_floors::whole_floor;
+pub use lives::Live;
+pub use refusals::{ForgetError, ResumeError};
+pub use resumed::RoundChecks;
 pub use worlds::cut_world;
-
-#[cfg(test)]
-mod tests;

@@ -7,9 +7,9 @@ ghost use Rattle.line_cuts.specs.Cuts.{lost_checks};
 ghost use Rattle.line_moves.specs.Listed.{ListedRound, check_in, IsSnapshotOf};
 ghost use Rattle.line_lives.specs.Lives.{cut_listed, is_listed_on};
 
-use crate::floors::OwnedFloor;
 use line_catalogue::Catalogue;
 use line_colours::{Channels, SharedChannels};
+use line_cuts::OwnedFloor;
 use line_moves::{Listing, Round};
 use line_names::{Choice, Line, ProcId};
 use std::alloc::{AllocError, Global};

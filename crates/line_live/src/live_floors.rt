@@ -8,10 +8,9 @@ ghost use Rattle.line_lives.specs.Lives.{cut_machine};
 ghost use Rattle.line_live.specs.Forgets.{idle_refusal, IsFloorWhereAllFail};
 ghost use Rattle.line_live.specs.Machines.{IsSameMachine};
 
-use crate::floors::OwnedFloor;
-use crate::found_floors::floor_at;
 use crate::refusals::ForgetError;
 use crate::worlds::cut_world;
+use line_cuts::{OwnedFloor, floor_at};
 use line_names::{ProcId, ProcSet};
 use line_steps::Mode;
 use line_world::World;
@@ -45,6 +44,28 @@ fn live_floor(alloc: Global, world: &World) -> Result<OwnedFloor, AllocError>
     }
 }
 
+/// The floor at the latest line of a world where every process fails, if it lets go what stands
+/// before it.
+pub(crate) fn line_floor(alloc: Global, world: &World) -> Result<OwnedFloor, ForgetError>
+    ensures floor { IfOk result (λ floor. IsFloorWhereAllFail world.now floor) }
+    ensures done { OnOk result (idle_refusal world.now.mode (is_open world.now) None ≡ None) }
+    ensures refused { IfErr result (λ e. e ≢ ForgetError.OutOfMemory
+        → idle_refusal world.now.mode (is_open world.now) None ≡ Some e) }
+    ensures memory { IsErrOf result ForgetError.OutOfMemory
+        → idle_refusal world.now.mode (is_open world.now) None ≡ None }
+{
+    match world.mode() {
+        Mode::Unordered => Err(ForgetError::WrongMode),
+        Mode::Fifo => {
+            if world.is_open() {
+                return Err(ForgetError::RoundOpen);
+            }
+            let floor = live_floor(alloc, world)?;
+            Ok(floor)
+        }
+    }
+}
+
 /// Lets go what stands before the line that a recovery would go back to if every process failed:
 /// tells the floor there, and what is left of the world, in memory of its own. No recovery goes
 /// back further, unless a check of that line is damaged or a process is barred before it.
@@ -62,15 +83,7 @@ pub fn forget_live(alloc: Global, world: &World) -> Result<(OwnedFloor, World), 
     ensures memory { IsErrOf result ForgetError.OutOfMemory
         → idle_refusal world.now.mode (is_open world.now) None ≡ None }
 {
-    match world.mode() {
-        Mode::Unordered => Err(ForgetError::WrongMode),
-        Mode::Fifo => {
-            if world.is_open() {
-                return Err(ForgetError::RoundOpen);
-            }
-            let floor = live_floor(alloc, world)?;
-            let left = cut_world(alloc, world, &floor)?;
-            Ok((floor, left))
-        }
-    }
+    let floor = line_floor(alloc, world)?;
+    let left = cut_world(alloc, world, &floor)?;
+    Ok((floor, left))
 }

@@ -1,4 +1,4 @@
-//! Why nothing is let go.
+//! Why nothing is let go, and why no machine is opened anew.
 ghost use Rattle.std.specs.Prelude.{◌≡◌};
 
 use std::alloc::AllocError;
@@ -22,6 +22,9 @@ pub enum ForgetError {
     /// A check of the round is damaged, or its process is barred before it.
     #[error("a check of the round is damaged, or a process is barred before it")]
     RoundLost = 49,
+    /// Of a process more would be let go in all than there are numbers for: `MOST_LET_GO`.
+    #[error("more of a process would be let go than there are numbers for")]
+    NoMoreNumbers = 50,
 }
 
 impl ForgetError {
@@ -32,6 +35,7 @@ impl ForgetError {
         ensures open { self ≡ ForgetError.RoundOpen → result ≡ 20 }
         ensures listed { self ≡ ForgetError.NoSuchRound → result ≡ 48 }
         ensures lost { self ≡ ForgetError.RoundLost → result ≡ 49 }
+        ensures numbers { self ≡ ForgetError.NoMoreNumbers → result ≡ 50 }
     {
         self as u32
     }
@@ -45,5 +49,41 @@ impl From<AllocError> for ForgetError {
 
     fn from(_refused: AllocError) -> ForgetError {
         ForgetError::OutOfMemory
+    }
+}
+
+/// Why no machine is opened of the parts of one.
+#[derive(Clone, Copy, Debug, PartialEq, Eq, Hash, Error)]
+pub enum ResumeError {
+    /// Memory was refused.
+    #[error("out of memory")]
+    OutOfMemory,
+    /// The floor is of another number of processes than the history.
+    #[error("the floor is of another number of processes")]
+    ForeignFloor,
+    /// Of a process more was let go than there are numbers for: `MOST_LET_GO`.
+    #[error("more of a process was let go than there are numbers for")]
+    NoMoreNumbers,
+    /// The listed rounds do not stand in the order of their numbers, or one is later than the last
+    /// round begun.
+    #[error("the listed rounds are not in order, or one was not begun")]
+    RoundsDisordered,
+    /// The tapes are none that links in order lead to while no round is open, or a round on one is
+    /// later than the last round begun.
+    #[error("the tapes are not those of processes between which no round is open")]
+    NotIdle,
+    /// The checks of a listed round make no consistent line.
+    #[error("the checks of a listed round make no consistent line")]
+    NotConsistent,
+}
+
+impl From<AllocError> for ResumeError {
+    ghost use Rattle.std.specs.Prelude.{◌≡◌};
+    ghost use Rattle.line_live.specs.declared.refusals.ResumeError.TheVariants.{OutOfMemory};
+
+    ghost from_gives = { λ _ e. e ≡ OutOfMemory };
+
+    fn from(_refused: AllocError) -> ResumeError {
+        ResumeError::OutOfMemory
     }
 }

@@ -5,9 +5,8 @@ ghost use Rattle.line_cuts.specs.Cuts.{IsFloor};
 ghost use Rattle.line_lives.specs.Lives.{cut_machine};
 ghost use Rattle.line_live.specs.Machines.{IsSameMachine};
 
-use crate::catalogues::cut_catalogue;
-use crate::floors::OwnedFloor;
 use crate::listed::cut_listing;
+use line_cuts::{OwnedFloor, cut_catalogue};
 use line_world::World;
 use std::alloc::{AllocError, Global};
 

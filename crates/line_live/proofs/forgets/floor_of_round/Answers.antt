@@ -7,7 +7,7 @@ use Rattle.line_tape.specs.History.{Process}
 use Rattle.line_tape.specs.Line.{IsConsistent}
 use Rattle.line_tape.specs.Rounds.{check_line}
 use Rattle.line_cuts.specs.Cuts.{Floor, IsFloor}
-use Rattle.line_live.specs.Floors.{floor_of_line, IsOfChecks}
+use Rattle.line_cuts.specs.Floors.{floor_of_line, IsOfChecks}
 use Rattle.line_live.proofs.ForgetLemmas.{of_checks}
 use Rattle.line_live.proofs.forgets.floor_of_round.Goals as goal
 

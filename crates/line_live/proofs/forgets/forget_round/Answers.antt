@@ -1,17 +1,18 @@
--- The round that stands there is the one of that number.
-use Rattle.std.proofs.Common.{◌≡◌, List, Some, sym, ap, ◌∙◌}
-use Rattle.std.proofs.lemmas.Result.{IfOk-weaker}
-use Rattle.line_moves.specs.Listed.{ListedRound}
-use Rattle.line_world.specs.Machine.{Machine}
-use Rattle.line_live.specs.Forgets.{listed_of, IsFloorAt, IsFloorOfRound}
+-- The links keep their order, and the floor is of the last round begun.
+use Rattle.std.proofs.Common.{ap}
+use Rattle.line_world.specs.Machine.{Machine, is_open}
+use Rattle.line_cuts.specs.Cuts.{Floor}
+use Rattle.line_live.specs.Forgets.{listed_of, round_refusal}
+use Rattle.line_live.proofs.ForgetLemmas.{idle_cases}
 use Rattle.line_live.proofs.forgets.forget_round.Goals as goal
 
-pub returns-in-Some-clause-floor : goal.returns-in-Some-clause-floor
-returns-in-Some-clause-floor c =
+pub cut_world-requires-clause-fifo : goal.cut_world-requires-clause-fifo
+cut_world-requires-clause-fifo c =
     let machine : Machine = c.args.world.now in
-    let round : ListedRound = c.index-rounds-i.result in
-    let listed : listed_of machine.rounds c.args.number ≡ Some round =
-    ap (λ (rounds : List ListedRound). listed_of rounds c.args.number) (sym c.rounds-rounds.ensures.value)
-    ∙ c.in-Some.ensures.1 round ∙ ap (λ (r : ListedRound). Some r) (sym c.index-rounds-i.is) in
-    IfOk-weaker c.forget_listed.result (λ left. IsFloorAt machine round left.0) (λ left. IsFloorOfRound machine c.args.number left.0)
-    (λ left at. record { round = round; listed = listed; at = at }) c.forget_listed.ensures.floor
+    (idle_cases machine.mode (is_open machine) (round_refusal machine (listed_of machine.rounds c.args.number)) c.in_ok-floor.ensures.done).0
+
+pub cut_world-requires-clause-last : goal.cut_world-requires-clause-last
+cut_world-requires-clause-last c = ap (λ (f : Floor). f.round) c.in_ok-floor.ensures.floor.at.value
+
+pub cut_world-requires-clause-floor : goal.cut_world-requires-clause-floor
+cut_world-requires-clause-floor c = c.in_ok-floor.ensures.floor.at.is

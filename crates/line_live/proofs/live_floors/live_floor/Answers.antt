@@ -9,7 +9,7 @@ use Rattle.line_tape.specs.Line.{IsConsistent, IsLine}
 use Rattle.line_cuts.specs.Cuts.{Floor, FloorSurvives, IsFloor}
 use Rattle.line_moves.proofs.LineFacts.{IsLine-latest}
 use Rattle.line_world.specs.Machine.{Machine}
-use Rattle.line_live.specs.Floors.{floor_of_line, IsOfChecks}
+use Rattle.line_cuts.specs.Floors.{floor_of_line, IsOfChecks}
 use Rattle.line_live.proofs.LiveFloors.{all_checks, live_survives}
 use Rattle.line_live.proofs.live_floors.live_floor.Goals as goal
 

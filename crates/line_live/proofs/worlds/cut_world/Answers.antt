@@ -1,17 +1,18 @@
 -- What is left fits links that keep their order and has no round; what stays listed is a snapshot of
 -- it.
-use Rattle.std.proofs.Common.{◌≡◌, ℕ, ◌+◌, List, [], length, map, sym, ap, ◌∙◌, subst, arith}
+use Rattle.std.proofs.Common.{◌≡◌, ℕ, ◌+◌, ◌≤◌, List, [], length, map, sym, ap, ◌∙◌, subst, arith}
 use Rattle.std.specs.Prelude.{IsTrue}
 use Rattle.std.specs.List.{All, filter}
 use Rattle.std.proofs.lemmas.List.{length-map}
 use Rattle.line_names.specs.declared.choices.Choice.TheVariants.{Check as AtCheck}
 use Rattle.line_tape.specs.Fit.{IsFitFifo}
 use Rattle.line_tape.specs.History.{Process, tape_at}
-use Rattle.line_tape.specs.Rounds.{rounds_checked}
+use Rattle.line_tape.specs.Rounds.{has_check_of, rounds_checked}
 use Rattle.line_steps.specs.declared.modes.Mode.{Mode}
 use Rattle.line_moves.specs.Listed.{ListedRound, IsSnapshotOf}
 use Rattle.line_moves.specs.Modes.{IsFitIn}
 use Rattle.line_moves.specs.Worlds.{AreNumbered}
+use Rattle.line_world.proofs.IdleLemmas.{idle_unbegun}
 use Rattle.line_cuts.specs.Cuts.{Floor, cut_history}
 use Rattle.line_cuts.proofs.LatestCuts.{length_history}
 use Rattle.line_lives.specs.Lives.{cut_listed, is_listed_on}
@@ -52,23 +53,17 @@ cut_listing-requires-clause-snapshots c =
     (sym (cut_is floor kept c.catalogue.result.now.processes whole c.in_ok-catalogue.ensures.processes c.catalogue.ensures.processes))
     (left_each floor whole c.args.world.now.rounds fit c.requires.floor c.rounds.ensures.snapshots))
 
-pub resume-requires-clause-fit : goal.resume-requires-clause-fit
-resume-requires-clause-fit c =
+pub resume-requires-clause-idle : goal.resume-requires-clause-idle
+resume-requires-clause-idle c =
     let floor : Floor = c.args.floor.now in
     let whole : List Process = c.args.world.now.history in
     let kept : List Process = c.in_ok-catalogue.catalogue.processes in
     let fit : IsFitFifo whole = subst (λ (mode : Mode). IsFitIn mode whole) c.requires.fifo c.history-history.ensures.fit in
-    subst IsFitFifo (sym (cut_is floor kept c.catalogue.result.now.processes whole c.in_ok-catalogue.ensures.processes c.catalogue.ensures.processes))
-    (fit_left floor whole fit (λ p r has. let known = c.last_round-last_round.ensures.greatest p r has in omega (arith, known, c.requires.last)))
-
-pub resume-requires-clause-unbegun : goal.resume-requires-clause-unbegun
-resume-requires-clause-unbegun c = λ p.
-    let floor : Floor = c.args.floor.now in
-    let whole : List Process = c.args.world.now.history in
-    let kept : List Process = c.in_ok-catalogue.catalogue.processes in
-    let fit : IsFitFifo whole = subst (λ (mode : Mode). IsFitIn mode whole) c.requires.fifo c.history-history.ensures.fit in
-    subst (λ (h : List Process). rounds_checked (tape_at h p) ≡ []) (sym (cut_is floor kept c.catalogue.result.now.processes whole c.in_ok-catalogue.ensures.processes c.catalogue.ensures.processes))
-    (unbegun_left floor whole fit (λ q r has. let known = c.last_round-last_round.ensures.greatest q r has in omega (arith, known, c.requires.last)) p)
+    let same : kept ≡ cut_history floor whole = cut_is floor kept c.catalogue.result.now.processes whole c.in_ok-catalogue.ensures.processes c.catalogue.ensures.processes in
+    let old_rounds : (q r : ℕ) → IsTrue (has_check_of r (tape_at whole q)) → r ≤ floor.round = λ q r has. let known = c.last_round-last_round.ensures.greatest q r has in omega (arith, known, c.requires.last) in
+    idle_unbegun kept c.last_round-last_round.result
+    (subst IsFitFifo (sym same) (fit_left floor whole fit old_rounds))
+    (λ p. subst (λ (h : List Process). rounds_checked (tape_at h p) ≡ []) (sym same) (unbegun_left floor whole fit old_rounds p))
 
 pub resume-requires-clause-snapshots : goal.resume-requires-clause-snapshots
 resume-requires-clause-snapshots c =
