@@ -1,5 +1,5 @@
 -- A history that is written is read again.
-use Rattle.std.proofs.Common.{◌≡◌, ◌≤◌, ◌<◌, ℕ, ◌+◌, true, false, List, [], ◌∷◌, ◌++◌, length, Result, Ok, refl, sym, ap, ◌∙◌, arith, append_assoc, length-append}
+use Rattle.std.proofs.Common.{◌≡◌, ◌≤◌, ◌<◌, ℕ, ◌+◌, true, false, List, [], ◌∷◌, ◌++◌, length, Result, Ok, refl, sym, ap, ◌∙◌, arith, append_assoc, eq-eqb, length-append}
 use Rattle.std.specs.Prelude.{codes, map, replicate}
 use Rattle.std.specs.List.{AllByRecursion}
 use Rattle.std.proofs.Math.Seq.{get_or-append_seam, set-append_seam}
@@ -7,21 +7,24 @@ use Rattle.std.proofs.Math.ListN.{length-replicate, set}
 use Rattle.std.proofs.lemmas.List.{append-nil}
 use Rattle.line_fields.specs.declared.faults.Fault.{Fault}
 use Rattle.line_names.specs.declared.limits.TheConstants.{MOST_PROCESSES}
+use Rattle.line_fields.specs.Fields.{◌>>=◌}
 use Rattle.line_fields.specs.Records.{Record}
+use Rattle.line_fields.specs.Shapes.{three}
 use Rattle.line_tape.specs.declared.events.Event.{Event}
 use Rattle.line_tape.specs.declared.limits.TheConstants.{LAST_INCARNATION, MOST_EVENTS}
 use Rattle.line_tape.specs.History.{Process, fresh, tape_at, with_event, with_incarnation}
 use Rattle.line_claims.specs.declared.faults.TextFault.{TextFault}
 use Rattle.line_claims.specs.declared.numbers.TheConstants.{MOST_NUMBER}
 use Rattle.line_claims.specs.Events.{is_event}
-use Rattle.line_claims.specs.Histories.{event_at, front_of, head_in, tape_from, tape_of, tapes_from}
-use Rattle.line_claims.specs.Parts.{Part, begins, many, is_named, one}
-use Rattle.line_claims.specs.Ranges.{IsHistoryInRange, IsEventInRange, IsTapeInRange}
-use Rattle.line_claims.specs.Records.{event_record, front_records, tape_record, tapes_records}
+use Rattle.line_claims.specs.Histories.{event_at, floors_of, front_of, head_in, one_floor_more, tape_from, tape_of, tapes_from}
+use Rattle.line_claims.specs.Parts.{Part, begins, many, is_named, one, several}
+use Rattle.line_claims.specs.Ranges.{AreFloorsInRange, IsHistoryInRange, IsEventInRange, IsTapeInRange}
+use Rattle.line_claims.specs.Records.{event_record, floor_record, floors_records, front_records, history_record, tape_record, tapes_records}
 use Rattle.line_claims.specs.Texts.{history_of}
 use Rattle.line_claims.specs.Versions.{IsCheckVersion, most_in}
-use Rattle.line_claims.proofs.ReadingLemmas.{first_more, many_end}
-use Rattle.line_claims.proofs.SpellLemmas.{event_again, event_is_event, head_again, tape_again}
+use Rattle.line_claims.proofs.ReadingLemmas.{first_more, many_end, several_next}
+use Rattle.line_claims.proofs.SpellLemmas.{event_again, event_is_event, head_again, plain_again, tape_again}
+use Rattle.line_claims.proofs.VersionLemmas.{floors_few}
 
 -- a process
 abbrev process_with : ℕ → List Event → Process
@@ -124,24 +127,71 @@ tapes_again n done (p ∷ others) h b i more ends is at total few fit =
     (rest.0, rw whole (rest.1 ∙ ap P (append_assoc done (p ∷ []) others)))
 
 -- a history is read, up to the end or to what is no event
-pub front_again : (version : ℕ) (history : List Process) (more : List Record) → IsHistoryInRange history → begins is_event more ≡ false
-    → (j : ℕ) × (front_of (length history) (front_records version history ++ more) ≡ Ok (part_to history j more))
+pub front_again : (history : List Process) (i : ℕ) (more : List Record) → IsHistoryInRange history → begins is_event more ≡ false
+    → (j : ℕ) × (front_of (length history) i (tapes_records 0 history ++ more) ≡ Ok (part_to history j more))
 unfolding front_of
-front_again version history more fit ends =
+front_again history i more fit ends =
     let n : ℕ = length history in
     let none : 0 + length history ≡ n = omega arith in
-    tapes_again n [] history (replicate n fresh) 0 2 more ends refl refl none fit.few fit.tapes
+    tapes_again n [] history (replicate n fresh) 0 i more ends refl refl none fit.few fit.tapes
+
+floor_again : (front : List (ℕ × ℕ)) (floor : ℕ × ℕ) → length front ≤ MOST_NUMBER → floor.0 ≤ MOST_NUMBER → floor.1 ≤ MOST_NUMBER → one_floor_more front (floor_record (length front) floor) ≡ Ok (front ++ floor ∷ [])
+unfolding one_floor_more three
+floor_again front floor few check sends =
+    rw (plain_again (length front) few, plain_again floor.0 check, plain_again floor.1 sends, eq-eqb (length front) (length front) refl) refl
+
+-- what was let go is read, process by process
+floors_again : (front floors : List (ℕ × ℕ)) (p i : ℕ) (more : List Record) → p ≡ length front → length front + length floors ≤ MOST_NUMBER
+    → AllByRecursion (λ floor. (floor.0 ≤ MOST_NUMBER) × (floor.1 ≤ MOST_NUMBER)) floors
+    → (j : ℕ) × (several (codes "floor") one_floor_more (length floors) front i (floors_records p floors ++ more) ≡ Ok (part_to (front ++ floors) j more))
+unfolding several
+floors_again front [] p i more at room fit =
+    let P : List (ℕ × ℕ) → Result (Part (List (ℕ × ℕ))) TextFault = λ floors. Ok (part_to floors i more) in
+    (i, ap P (sym (append-nil front)))
+floors_again front (floor ∷ others) p i more at room fit =
+    let next : List (ℕ × ℕ) = front ++ floor ∷ [] in
+    let later : List Record = floors_records (p + 1) others ++ more in
+    let few : length front ≤ MOST_NUMBER = omega (arith, room) in
+    let long : p + 1 ≡ length next = omega (arith, at, length-append front (floor ∷ [])) in
+    let left : length next + length others ≤ MOST_NUMBER = omega (arith, room, length-append front (floor ∷ [])) in
+    let read : one_floor_more front (floor_record p floor) ≡ Ok next = ap (λ (q : ℕ). one_floor_more front (floor_record q floor)) at ∙ floor_again front floor few fit.0.0 fit.0.1 in
+    let first = one_again (codes "floor") (one_floor_more front) i (floor_record p floor) later next refl read in
+    let rest = floors_again next others (p + 1) (i + 1) more long left fit.1 in
+    let P : List (ℕ × ℕ) → Result (Part (List (ℕ × ℕ))) TextFault = λ floors. Ok (part_to floors rest.0 more) in (
+      rest.0,
+      several_next (codes "floor") one_floor_more (length others) front i (floor_record p floor ∷ later)
+          ∙ ap (λ (read : Result (Part (List (ℕ × ℕ))) TextFault). read >>= λ s. several (codes "floor") one_floor_more (length others) s.value s.number s.left) first
+          ∙ rest.1 ∙ ap P (append_assoc front (floor ∷ []) others),
+    )
+
+-- all that a version tells of it, behind the first record
+pub all_floors_again : (version n : ℕ) (floors : List (ℕ × ℕ)) (r : Record) (more : List Record) → n ≤ MOST_PROCESSES → AreFloorsInRange version n floors
+    → (j : ℕ) × (floors_of version n (r ∷ (floors_records 0 floors ++ more)) ≡ Ok (part_to floors j more))
+all_floors_again version n floors r more few fit =
+    let counted = fit.counted in
+    let room : 0 + length floors ≤ MOST_NUMBER = omega (arith, few, counted, floors_few version n) in
+    let read = floors_again [] floors 0 2 more refl room fit.numbers in
+    (read.0, ap (λ (k : ℕ). several (codes "floor") one_floor_more k [] 2 (floors_records 0 floors ++ more)) (sym counted) ∙ read.1)
 
 -- its first record announces it
-pub first_again : (version : ℕ) (history : List Process) (more : List Record) → IsCheckVersion version → IsHistoryInRange history → length history ≤ most_in version
-    → head_in (front_records version history ++ more) ≡ Ok (version, length history)
-first_again version history more known fit room = rw (head_again version (length history) known fit.some room) refl
+pub first_again : (version : ℕ) (floors : List (ℕ × ℕ)) (history : List Process) (more : List Record) → IsCheckVersion version → IsHistoryInRange history → length history ≤ most_in version
+    → head_in (front_records version floors history ++ more) ≡ Ok (version, length history)
+first_again version floors history more known fit room = rw (head_again version (length history) known fit.some room) refl
 
-pub history_again : (version : ℕ) (history : List Process) → IsCheckVersion version → IsHistoryInRange history → length history ≤ most_in version → history_of (front_records version history) ≡ Ok history
+-- the records of a history stand apart
+pub front_parts : (version : ℕ) (floors : List (ℕ × ℕ)) (history : List Process) (more : List Record)
+    → front_records version floors history ++ more ≡ history_record version (length history) ∷ (floors_records 0 floors ++ (tapes_records 0 history ++ more))
+front_parts version floors history more = ap (λ (rest : List Record). history_record version (length history) ∷ rest) (append_assoc (floors_records 0 floors) (tapes_records 0 history) more)
+
+pub history_again : (version : ℕ) (floors : List (ℕ × ℕ)) (history : List Process) → IsCheckVersion version → AreFloorsInRange version (length history) floors → IsHistoryInRange history → length history ≤ most_in version
+    → history_of (front_records version floors history) ≡ Ok history
 unfolding history_of
-history_again version history known fit room =
-    let records : List Record = front_records version history in
-    let head : head_in records ≡ Ok (version, length history) = rw (head_again version (length history) known fit.some room) refl in
-    let read = front_again version history [] fit refl in
-    let whole : front_of (length history) records ≡ Ok (part_to history read.0 []) = ap (front_of (length history)) (sym (append-nil records)) ∙ read.1 in
-    rw (head, whole) refl
+history_again version floors history known good fit room =
+    let n : ℕ = length history in
+    let records : List Record = front_records version floors history in
+    let tapes : List Record = tapes_records 0 history in
+    let head : head_in records ≡ Ok (version, n) = rw (head_again version n known fit.some room) refl in
+    let told = all_floors_again version n floors (history_record version n) tapes fit.few good in
+    let read = front_again history told.0 [] fit refl in
+    let whole : front_of n told.0 tapes ≡ Ok (part_to history read.0 []) = ap (front_of n told.0) (sym (append-nil tapes)) ∙ read.1 in
+    rw (head, told.1, whole) refl

@@ -1,6 +1,6 @@
 -- Where processes go on and what is sent again is written, and read again.
-use Rattle.std.proofs.Common.{inl, inr, ◌≡◌, ◌≤◌, ◌<◌, ℕ, ◌+◌, ◌==◌, ◌&&◌, Bool, true, false, Option, Some, None, List, [], ◌∷◌, ◌++◌, length, Result, Ok, Err, refl, sym, ap, ◌∙◌, arith, append_assoc, length-append, le-leb, eq-eqb}
-use Rattle.std.specs.Prelude.{codes, map}
+use Rattle.std.proofs.Common.{cond, inl, inr, ◌≡◌, ◌≤◌, ◌<◌, ℕ, ◌+◌, ◌==◌, ◌&&◌, Bool, true, false, Option, Some, None, List, [], ◌∷◌, ◌++◌, length, Result, Ok, Err, refl, sym, ap, ◌∙◌, arith, append_assoc, length-append, le-leb, eq-eqb}
+use Rattle.std.specs.Prelude.{codes, map, nat_le}
 use Rattle.std.specs.List.{AllByRecursion}
 use Rattle.std.specs.Str.{bytes_eq}
 use Rattle.std.proofs.lemmas.Bool.{cases_Bool, lt-ltb}
@@ -18,21 +18,25 @@ use Rattle.line_names.specs.declared.limits.TheConstants.{MOST_BODY, MOST_PROCES
 use Rattle.line_tape.specs.declared.limits.TheConstants.{MOST_STATE}
 use Rattle.line_claims.specs.declared.faults.TextFault.{TextFault}
 use Rattle.line_claims.specs.declared.numbers.TheConstants.{MOST_NUMBER}
-use Rattle.line_claims.specs.Claims.{is_replay, starts_from}
+use Rattle.line_claims.specs.Claims.{answer_version, is_replay}
 use Rattle.line_claims.specs.Entries.{is_short, replay_of, start_of}
 use Rattle.line_claims.specs.Numbers.{state_or_none}
-use Rattle.line_claims.specs.Parts.{Part, begins, is_named, many}
-use Rattle.line_claims.specs.Ranges.{AreBytes, IsReplayInRange, IsStartInRange, IsStateInRange}
+use Rattle.line_claims.specs.Parts.{Part, begins, is_named, many, several}
+use Rattle.line_claims.specs.Ranges.{AreBytes, IsReplayInRange, IsStartInRange, IsStateInRange, version_with}
 use Rattle.line_claims.specs.Records.{end_record, full_replay_record, rest_records, start_record, starts_records, stored_text}
 use Rattle.line_claims.specs.Versions.{starts_in}
 use Rattle.line_claims.proofs.AgainLemmas.{one_again, part_to}
-use Rattle.line_claims.proofs.ReadingLemmas.{first_more, many_end, starts_next}
+use Rattle.line_claims.proofs.ReadingLemmas.{first_more, many_end, several_next}
 use Rattle.line_claims.proofs.SpellLemmas.{incarnation_again, plain_again}
 use Rattle.line_claims.proofs.VersionLemmas.{starts_few}
 
 pub and_false : (b : Bool) → (b && false) ≡ false
 and_false true = refl
 and_false false = refl
+
+and_true : (b : Bool) → (b && true) ≡ b
+and_true true = refl
+and_true false = refl
 
 -- no bytes are spelled as a sign for none is
 dash_spells_nothing : hex (codes "-") ≡ Err faults.BadNumber
@@ -64,8 +68,8 @@ start_again n front start few there fit =
 
 -- where the processes go on is read, process by process
 starts_again : (n : ℕ) (front starts : List Start) (p i : ℕ) (more : List Record) → n ≤ MOST_PROCESSES → p ≡ length front → length front + length starts ≤ n → AllByRecursion IsStartInRange starts
-    → (j : ℕ) × (starts_from n (length starts) front i (starts_records p starts ++ more) ≡ Ok (part_to (front ++ starts) j more))
-unfolding starts_from
+    → (j : ℕ) × (several (codes "start") (start_of n) (length starts) front i (starts_records p starts ++ more) ≡ Ok (part_to (front ++ starts) j more))
+unfolding several
 starts_again n front [] p i more few at room fit =
     let P : List Start → Result (Part (List Start)) TextFault = λ starts. Ok (part_to starts i more) in
     (i, ap P (sym (append-nil front)))
@@ -80,17 +84,17 @@ starts_again n front (start ∷ others) p i more few at room fit =
     let rest = starts_again n next others (p + 1) (i + 1) more few long left fit.1 in
     let P : List Start → Result (Part (List Start)) TextFault = λ starts. Ok (part_to starts rest.0 more) in (
       rest.0,
-      starts_next n (length others) front i (start_record p start ∷ later)
-          ∙ ap (λ (read : Result (Part (List Start)) TextFault). read >>= λ s. starts_from n (length others) s.value s.number s.left) first
+      several_next (codes "start") (start_of n) (length others) front i (start_record p start ∷ later)
+          ∙ ap (λ (read : Result (Part (List Start)) TextFault). read >>= λ s. several (codes "start") (start_of n) (length others) s.value s.number s.left) first
           ∙ rest.1 ∙ ap P (append_assoc front (start ∷ []) others),
     )
 
 pub all_starts_again : (version n : ℕ) (starts : List Start) (i : ℕ) (more : List Record) → n ≤ MOST_PROCESSES → length starts ≡ starts_in version n → AllByRecursion IsStartInRange starts
-    → (j : ℕ) × (starts_from n (starts_in version n) [] i (starts_records 0 starts ++ more) ≡ Ok (part_to starts j more))
+    → (j : ℕ) × (several (codes "start") (start_of n) (starts_in version n) [] i (starts_records 0 starts ++ more) ≡ Ok (part_to starts j more))
 all_starts_again version n starts i more few counted fit =
     let room : 0 + length starts ≤ n = omega (arith, counted, starts_few version n) in
     let read = starts_again n [] starts 0 i more few refl room fit in
-    (read.0, ap (λ (k : ℕ). starts_from n k [] i (starts_records 0 starts ++ more)) (sym counted) ∙ read.1)
+    (read.0, ap (λ (k : ℕ). several (codes "start") (start_of n) k [] i (starts_records 0 starts ++ more)) (sym counted) ∙ read.1)
 
 replay_again : (n : ℕ) (front : List Replay) (replay : Replay) → n ≤ MOST_PROCESSES → IsReplayInRange n replay → replay_of n front (full_replay_record replay) ≡ Ok (front ++ replay ∷ [])
 unfolding replay_of
@@ -105,7 +109,7 @@ replay_again n front replay few fit =
 abbrev replays_from : ℕ → ℕ → List Replay → ℕ → List Record → Result (Part (List Replay)) TextFault
 replays_from version n replays i records = many (is_replay version) (replay_of n) replays i records
 
-replays_again : (version n : ℕ) (front replays : List Replay) (more : List Record) (i : ℕ) → n ≤ MOST_PROCESSES → (version == 3) ≡ true → AllByRecursion (IsReplayInRange n) replays
+replays_again : (version n : ℕ) (front replays : List Replay) (more : List Record) (i : ℕ) → n ≤ MOST_PROCESSES → nat_le 3 version ≡ true → AllByRecursion (IsReplayInRange n) replays
     → (j : ℕ) × (replays_from version n front i (map full_replay_record replays ++ more) ≡ replays_from version n (front ++ replays) j more)
 replays_again version n front [] more i few known fit = (i, ap (λ (replays : List Replay). replays_from version n replays i more) (sym (append-nil front)))
 replays_again version n front (replay ∷ replays) more i few known fit =
@@ -115,18 +119,18 @@ replays_again version n front (replay ∷ replays) more i few known fit =
     let rest = replays_again version n next replays more (i + 1) few known fit.1 in
     (rest.0, first ∙ rest.1 ∙ ap (λ (listed : List Replay). replays_from version n listed rest.0 more) (append_assoc front (replay ∷ []) replays))
 
-pub all_replays_again : (version n : ℕ) (replays : List Replay) (i : ℕ) → n ≤ MOST_PROCESSES → ((version == 3) ≡ false → replays ≡ []) → AllByRecursion (IsReplayInRange n) replays
+pub all_replays_again : (version n : ℕ) (replays : List Replay) (i : ℕ) → n ≤ MOST_PROCESSES → (nat_le 3 version ≡ false → replays ≡ []) → AllByRecursion (IsReplayInRange n) replays
     → (j : ℕ) × (replays_from version n [] i (map full_replay_record replays ++ end_record ∷ []) ≡ Ok (part_to replays j (end_record ∷ [])))
-all_replays_again version n replays i few later fit = elim (cases_Bool (version == 3)) [
+all_replays_again version n replays i few later fit = elim (cases_Bool (nat_le 3 version)) [
   | inl known ↦
       let read = replays_again version n [] replays (end_record ∷ []) i few known fit in
-      (read.0, read.1 ∙ many_end (is_replay version) (replay_of n) replays read.0 (end_record ∷ []) (and_false (version == 3)))
+      (read.0, read.1 ∙ many_end (is_replay version) (replay_of n) replays read.0 (end_record ∷ []) (and_false (nat_le 3 version)))
   | inr other ↦
       let none : replays ≡ [] = later other in
       let P : List Replay → Result (Part (List Replay)) TextFault = λ listed. Ok (part_to listed i (end_record ∷ [])) in (
         i,
         ap (λ (listed : List Replay). replays_from version n [] i (map full_replay_record listed ++ end_record ∷ [])) none
-            ∙ many_end (is_replay version) (replay_of n) [] i (end_record ∷ []) (and_false (version == 3)) ∙ ap P (sym none),
+            ∙ many_end (is_replay version) (replay_of n) [] i (end_record ∷ []) (and_false (nat_le 3 version)) ∙ ap P (sym none),
       )
 ]
 
@@ -135,3 +139,9 @@ pub rest_is_no_pass : (starts : List Start) (replays : List Replay) → begins (
 rest_is_no_pass [] [] = refl
 rest_is_no_pass [] (replay ∷ replays) = refl
 rest_is_no_pass (start ∷ starts) replays = refl
+
+-- as which version what stands behind the entries is read
+pub answer_again : (version : ℕ) (starts : List Start) (replays : List Replay) → answer_version version (rest_records starts replays) ≡ version_with version starts
+answer_again version [] [] = ap (λ (b : Bool). cond b 2 version) (and_true (version == 4))
+answer_again version [] (replay ∷ replays) = ap (λ (b : Bool). cond b 2 version) (and_true (version == 4))
+answer_again version (start ∷ starts) replays = ap (λ (b : Bool). cond b 2 version) (and_false (version == 4))

@@ -13,22 +13,22 @@ use Rattle.line_fields.specs.Records.{Record}
 use Rattle.line_tape.specs.Survival.{is_barred, is_damaged}
 use Rattle.line_tape.specs.Views.{MarksView, no_marks, with_bar, with_mark}
 use Rattle.line_claims.specs.declared.faults.TextFault.{TextFault}
-use Rattle.line_claims.specs.Claims.{Claim, claim_from, is_bar}
+use Rattle.line_claims.specs.Claims.{Claim, answer_version, claim_from, is_bar}
 use Rattle.line_claims.specs.Entries.{bar_of, damage_of, end_of, entry_of, failed_of, line_of}
 use Rattle.line_claims.specs.Events.{is_event}
 use Rattle.line_claims.specs.Parts.{Part, begins, many, is_named}
-use Rattle.line_claims.specs.Ranges.{AreMarks, IsBar, IsClaimInRange, IsEntryInRange}
+use Rattle.line_claims.specs.Ranges.{AreMarks, IsBar, IsClaimInRange, IsEntryInRange, version_with}
 use Rattle.line_claims.specs.Records.{bar_record, bars_records, claim_records, damage_record, damages_records, end_record, failed_record, judged_records, line_record, pass_record, full_replay_record, rest_records}
 use Rattle.line_claims.proofs.AgainLemmas.{one_again, part_to}
-use Rattle.line_claims.proofs.AnswerAgainLemmas.{all_replays_again, all_starts_again, and_false, rest_is_no_pass}
+use Rattle.line_claims.proofs.AnswerAgainLemmas.{all_replays_again, all_starts_again, and_false, answer_again, rest_is_no_pass}
 use Rattle.line_claims.proofs.EntryAgainLemmas.{bar_again, damage_again, entry_again, failed_again, line_again}
 use Rattle.line_claims.proofs.ReadingLemmas.{first_more, many_end}
 
-abbrev marks_of : List (Option ℕ) → List (List ℕ) → MarksView
+abbrev pub marks_of : List (Option ℕ) → List (List ℕ) → MarksView
 marks_of bars damaged = record { damaged = damaged; bars = bars }
 
 -- the marks of records, behind those so far
-abbrev marks_from : ℕ → MarksView → ℕ → List Record → Result (Part MarksView) TextFault
+abbrev pub marks_from : ℕ → MarksView → ℕ → List Record → Result (Part MarksView) TextFault
 marks_from n marks i records = many (is_named (codes "damage")) (damage_of n) marks i records
 
 mark_between : (bars : List (Option ℕ)) (done after : List (List ℕ)) (front : List ℕ) (check : ℕ) → with_mark (marks_of bars (done ++ front ∷ after)) (length done) check ≡ marks_of bars (done ++ (front ++ check ∷ []) ∷ after)
@@ -53,7 +53,7 @@ marks_again n bars done after front (check ∷ checks) more i few there fit =
     (rest.0, first ∙ rest.1 ∙ ap (λ (listed : List ℕ). marks_from n (marks_of bars (done ++ listed ∷ after)) rest.0 more) (append_assoc front (check ∷ []) checks))
 
 -- the marks of processes are read one after another
-damages_again : (n : ℕ) (bars : List (Option ℕ)) (done rest : List (List ℕ)) (p i : ℕ) (more : List Record) → n ≤ MOST_PROCESSES → p ≡ length done → length done + length rest ≤ n → AllByRecursion (AreMarks []) rest
+pub damages_again : (n : ℕ) (bars : List (Option ℕ)) (done rest : List (List ℕ)) (p i : ℕ) (more : List Record) → n ≤ MOST_PROCESSES → p ≡ length done → length done + length rest ≤ n → AllByRecursion (AreMarks []) rest
     → (j : ℕ) × (marks_from n (marks_of bars (done ++ replicate (length rest) [])) i (damages_records p rest ++ more) ≡ marks_from n (marks_of bars (done ++ rest)) j more)
 damages_again n bars done [] p i more few at room fit = (i, refl)
 damages_again n bars done (checks ∷ others) p i more few at room fit =
@@ -94,15 +94,15 @@ bar_between : (damaged : List (List ℕ)) (done after : List (Option ℕ)) (chec
 bar_between damaged done after check = ap (λ (bars : List (Option ℕ)). marks_of bars damaged) (set-append_seam done None after (Some check))
 
 -- the bars of records, behind those so far
-abbrev bars_from : ℕ → ℕ → MarksView → ℕ → List Record → Result (Part MarksView) TextFault
+abbrev pub bars_from : ℕ → ℕ → MarksView → ℕ → List Record → Result (Part MarksView) TextFault
 bars_from version n marks i records = many (is_bar version) (bar_of n) marks i records
 
 -- where there is a bar, the version knows it
-abbrev Knows : ℕ → List (Option ℕ) → Type 0
+abbrev pub Knows : ℕ → List (Option ℕ) → Type 0
 Knows version bars = list_any is_some bars ≡ true → nat_le 2 version ≡ true
 
 -- the bars of processes are read one after another
-bars_again : (version n : ℕ) (damaged : List (List ℕ)) (done rest : List (Option ℕ)) (p i : ℕ) (more : List Record) → n ≤ MOST_PROCESSES → p ≡ length done → length done + length rest ≤ n
+pub bars_again : (version n : ℕ) (damaged : List (List ℕ)) (done rest : List (Option ℕ)) (p i : ℕ) (more : List Record) → n ≤ MOST_PROCESSES → p ≡ length done → length done + length rest ≤ n
     → AllByRecursion IsBar rest → Knows version rest
     → (j : ℕ) × (bars_from version n (marks_of (done ++ replicate (length rest) None) damaged) i (bars_records p rest ++ more) ≡ bars_from version n (marks_of (done ++ rest) damaged) j more)
 bars_again version n damaged done [] p i more few at room fit knows = (i, refl)
@@ -171,10 +171,12 @@ claim_again version claim i fit =
     let entries : entries_from n [] ((told.0 + 1) + 1) passes ≡ Ok (part_to claim.certificate listed.0 rest)
     = listed.1 ∙ many_end (is_named (codes "pass")) (entry_of n) claim.certificate listed.0 rest (rest_is_no_pass claim.starts claim.replays) in
     let sent : List Record = map full_replay_record claim.replays ++ end_record ∷ [] in
-    let started = all_starts_again version n claim.starts listed.0 sent few fit.counted fit.starts in
-    let replayed = all_replays_again version n claim.replays started.0 few fit.later fit.replays in
+    let told : ℕ = version_with version claim.starts in
+    let as_told : answer_version version rest ≡ told = answer_again version claim.starts claim.replays in
+    let started = all_starts_again told n claim.starts listed.0 sent few fit.counted fit.starts in
+    let replayed = all_replays_again told n claim.replays started.0 few fit.later fit.replays in
     let end = one_again (codes "end") end_of replayed.0 end_record [] tt refl refl in
-    rw (damage, marks, failed, line, entries, started.1, replayed.1, end) refl
+    rw (damage, marks, failed, line, entries, as_told, started.1, replayed.1, end) refl
 
 bars_begin : (p n : ℕ) (bars : List (Option ℕ)) (failed : List Bool) (rest : List Record)
     → begins is_event (bars_records p bars ++ (failed_record n failed ∷ rest)) ≡ false

@@ -1,5 +1,5 @@
 -- The records of a claim have plain fields, and the text of a history and a claim on it is read again.
-use Rattle.std.proofs.Common.{◌≡◌, ◌≤◌, ◌<◌, ℕ, ◌+◌, ◌^◌, true, Option, Some, None, List, [], ◌∷◌, ◌++◌, length, Ok, refl, sym, arith}
+use Rattle.std.proofs.Common.{◌≡◌, ◌≤◌, ◌<◌, ℕ, ◌+◌, ◌^◌, true, Option, Some, None, List, [], ◌∷◌, ◌++◌, length, Ok, refl, sym, ap, ◌∙◌, arith}
 use Rattle.std.specs.Prelude.{decimal, map}
 use Rattle.std.specs.List.{AllByRecursion, list_all}
 use Rattle.std.proofs.lemmas.List.Folds.{list_all-append}
@@ -15,12 +15,13 @@ use Rattle.line_fields.proofs.PlainLemmas.{plain_decimal, plain_hex}
 use Rattle.line_fields.proofs.ReadAgain.{written_is_input, written_is_read}
 use Rattle.line_tape.specs.History.{Process}
 use Rattle.line_claims.specs.declared.numbers.TheConstants.{MOST_NUMBER}
-use Rattle.line_claims.specs.Claims.{Claim}
-use Rattle.line_claims.specs.Ranges.{AreMarks, IsBar, IsChoice, IsClaimInRange, IsEntryInRange, IsHistoryInRange, IsReplayInRange, IsStartInRange, IsStateInRange}
-use Rattle.line_claims.specs.Records.{bars_records, choice_text, claim_records, damage_record, damages_records, end_record, front_records, judged_records, marks_records, members, pass_record, full_replay_record, rest_records, starts_records, stored_text}
+use Rattle.line_claims.specs.Claims.{Claim, claim_from}
+use Rattle.line_claims.specs.Histories.{floors_of, front_of, head_in}
+use Rattle.line_claims.specs.Ranges.{AreFloorsInRange, AreMarks, IsBar, IsChoice, IsClaimInRange, IsEntryInRange, IsHistoryInRange, IsReplayInRange, IsStartInRange, IsStateInRange, version_with}
+use Rattle.line_claims.specs.Records.{bars_records, choice_text, claim_records, damage_record, damages_records, end_record, floors_records, front_records, history_record, judged_records, marks_records, members, pass_record, full_replay_record, rest_records, starts_records, stored_text, tapes_records}
 use Rattle.line_claims.specs.Texts.{certificate_of, certificate_of_text, check_text_of, check_of_text}
 use Rattle.line_claims.specs.Versions.{IsCheckVersion, most_in}
-use Rattle.line_claims.proofs.AgainLemmas.{first_again, front_again}
+use Rattle.line_claims.proofs.AgainLemmas.{all_floors_again, first_again, front_again, front_parts, part_to}
 use Rattle.line_claims.proofs.ClaimAgainLemmas.{claim_again, claim_ends_front}
 use Rattle.line_claims.proofs.EntryAgainLemmas.{members_below}
 use Rattle.line_claims.proofs.VersionLemmas.{starts_few}
@@ -33,14 +34,14 @@ marks_are_written p before (check ∷ others) small fit =
     let wide : check ≤ MOST_NUMBER = fit.1 in
     rw (plain_decimal p small, plain_decimal check (omega arith)) (marks_are_written p (before ++ check ∷ []) others small fit.3)
 
-damages_are_written : (p : ℕ) (damaged : List (List ℕ)) → p + length damaged ≤ MOST_PROCESSES → AllByRecursion (AreMarks []) damaged → list_all is_written (damages_records p damaged) ≡ true
+pub damages_are_written : (p : ℕ) (damaged : List (List ℕ)) → p + length damaged ≤ MOST_PROCESSES → AllByRecursion (AreMarks []) damaged → list_all is_written (damages_records p damaged) ≡ true
 damages_are_written p [] room fit = refl
 damages_are_written p (checks ∷ others) room fit =
     let one = marks_are_written p [] checks (omega arith) fit.0 in
     let more = damages_are_written (p + 1) others (omega arith) fit.1 in
     rw (list_all-append is_written (map (damage_record p) checks) (damages_records (p + 1) others), one, more) refl
 
-bars_are_written : (p : ℕ) (bars : List (Option ℕ)) → p + length bars ≤ MOST_PROCESSES → AllByRecursion IsBar bars → list_all is_written (bars_records p bars) ≡ true
+pub bars_are_written : (p : ℕ) (bars : List (Option ℕ)) → p + length bars ≤ MOST_PROCESSES → AllByRecursion IsBar bars → list_all is_written (bars_records p bars) ≡ true
 bars_are_written p [] room fit = refl
 bars_are_written p (None ∷ others) room fit = bars_are_written (p + 1) others (omega arith) fit.1
 bars_are_written p (Some check ∷ others) room fit =
@@ -121,7 +122,7 @@ claim_is_written version claim fit =
     = rw (list_all-append is_written (damages_records 0 claim.marks.damaged) (bars_records 0 claim.marks.bars), damages_are_written 0 claim.marks.damaged room fit.marks) (bars_are_written 0 claim.marks.bars space fit.bars) in
     let failed = decimals_are_plain n (members n claim.failed) fit.few (members_below n claim.failed) in
     let line = choices_are_plain claim.line fit.choices in
-    let begun : 0 + length claim.starts ≤ MOST_PROCESSES = omega (arith, few, fit.counted, starts_few version n) in
+    let begun : 0 + length claim.starts ≤ MOST_PROCESSES = omega (arith, few, fit.counted, starts_few (version_with version claim.starts) n) in
     let started = starts_are_written 0 claim.starts begun fit.starts in
     let behind : list_all is_written rest ≡ true = rw (list_all-append is_written (starts_records 0 claim.starts) sent, started) (replays_are_written n claim.replays fit.few fit.replays) in
     let passes : list_all is_written (map pass_record claim.certificate ++ rest) ≡ true = rw (list_all-append is_written (map pass_record claim.certificate) rest, entries_are_written n claim.certificate fit.few fit.entries) behind in
@@ -134,16 +135,28 @@ claim_text_again version claim fit =
     let written = claim_is_written version claim fit in
     rw (written_is_input (claim_records claim) written, written_is_read (claim_records claim) written) (claim_again version claim 1 fit)
 
--- a history and a claim on it are read again
-pub check_text_again : (version : ℕ) (history : List Process) (claim : Claim) → IsCheckVersion version → length claim.marks.damaged ≤ most_in version → IsHistoryInRange history → IsClaimInRange version claim → length claim.marks.damaged ≡ length history
-    → check_of_text (records_text (front_records version history ++ claim_records claim)) ≡ Ok (record { history = history; claim = claim })
+-- a check text is read part by part
+check_joined : (version n i j : ℕ) (records behind rest : List Record) (history : List Process) (floors : List (ℕ × ℕ)) (claim : Claim) → head_in records ≡ Ok (version, n) → floors_of version n records ≡ Ok (part_to floors i behind)
+    → front_of n i behind ≡ Ok (part_to history j rest) → claim_from version n j rest ≡ Ok claim → check_text_of records ≡ Ok (record { history = history; floors = floors; claim = claim })
 unfolding check_text_of
-check_text_again version history claim known wide fit good same =
+check_joined version n i j records behind rest history floors claim head told front judged = rw (head, told, front, judged) refl
+
+-- a history and a claim on it are read again
+pub check_text_again : (version : ℕ) (floors : List (ℕ × ℕ)) (history : List Process) (claim : Claim) → IsCheckVersion version → length claim.marks.damaged ≤ most_in version → IsHistoryInRange history
+    → AreFloorsInRange version (length history) floors → IsClaimInRange version claim → length claim.marks.damaged ≡ length history
+    → check_of_text (records_text (front_records version floors history ++ claim_records claim)) ≡ Ok (record { history = history; floors = floors; claim = claim })
+unfolding check_text_of
+check_text_again version floors history claim known wide fit told good same =
     let n : ℕ = length claim.marks.damaged in
     let room : length history ≤ most_in version = omega (arith, wide, same) in
-    let records : List Record = front_records version history ++ claim_records claim in
-    let written : list_all is_written records ≡ true = rw (list_all-append is_written (front_records version history) (claim_records claim), history_is_written version history known fit, claim_is_written version claim good) refl in
-    let head = first_again version history (claim_records claim) known fit room in
-    let front = front_again version history (claim_records claim) fit (claim_ends_front claim) in
+    let records : List Record = front_records version floors history ++ claim_records claim in
+    let behind : List Record = tapes_records 0 history ++ claim_records claim in
+    let parts : records ≡ history_record version (length history) ∷ (floors_records 0 floors ++ behind) = front_parts version floors history (claim_records claim) in
+    let written : list_all is_written records ≡ true = rw (list_all-append is_written (front_records version floors history) (claim_records claim), history_is_written version floors history known told fit, claim_is_written version claim good) refl in
+    let head = first_again version floors history (claim_records claim) known fit room in
+    let let_go = all_floors_again version (length history) floors (history_record version (length history)) behind fit.few told in
+    let told_first : floors_of version (length history) records ≡ Ok (part_to floors let_go.0 behind) = ap (floors_of version (length history)) parts ∙ let_go.1 in
+    let front = front_again history let_go.0 (claim_records claim) fit (claim_ends_front claim) in
     let rest = claim_again version claim front.0 good in
-    rw (written_is_input records written, written_is_read records written, head, front.1, sym same, rest) refl
+    let judged = ap (λ (k : ℕ). claim_from version k front.0 (claim_records claim)) (sym same) ∙ rest in
+    rw (written_is_input records written, written_is_read records written) (check_joined version (length history) let_go.0 front.0 records behind (claim_records claim) history floors claim head told_first front.1 judged)

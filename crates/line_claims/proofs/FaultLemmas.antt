@@ -11,13 +11,12 @@ use Rattle.line_tape.specs.Views.{no_marks}
 use Rattle.line_claims.specs.declared.faults.TextFault.{TextFault}
 use Rattle.line_claims.specs.declared.faults.TextError.{TextError}
 use Rattle.line_claims.specs.declared.faults.TextError.TheVariants as errors
-use Rattle.line_check.specs.declared.answers.Start.{Start}
-use Rattle.line_claims.specs.Claims.{claim_from, is_bar, is_none, is_replay, starts_from}
+use Rattle.line_claims.specs.Claims.{answer_version, claim_from, is_bar, is_none, is_replay}
 use Rattle.line_claims.specs.Entries.{bar_of, damage_of, end_of, entry_of, failed_of, line_of, replay_of, start_of}
-use Rattle.line_claims.specs.Versions.{starts_in}
+use Rattle.line_claims.specs.Versions.{floors_in, starts_in}
 use Rattle.line_claims.specs.Events.{is_event}
-use Rattle.line_claims.specs.Histories.{event_at, front_of, head_in, head_of, tape_from, tape_of, tapes_from}
-use Rattle.line_claims.specs.Parts.{Part, begins, first, many, is_named, one}
+use Rattle.line_claims.specs.Histories.{event_at, floors_of, front_of, head_in, head_of, one_floor_more, tape_from, tape_of, tapes_from}
+use Rattle.line_claims.specs.Parts.{Part, begins, first, many, is_named, one, several}
 use Rattle.line_claims.specs.Reads.{FailsText, IsOfText, Reads, fault_of_record, no_memory, at_record, fault_of_error}
 use Rattle.line_claims.specs.Texts.{certificate_of, certificate_of_text, check_text_of, check_of_text, history_of, history_of_text, records_in}
 
@@ -94,15 +93,18 @@ tapes_faults p zero history i records = tt
 tapes_faults p (suc others) history i records =
     both_faults (tape_from p history i records) _ (tape_faults p history i records) (λ tape. tapes_faults (p + 1) others tape.value tape.number tape.left)
 
-front_of_faults : (n : ℕ) (records : List Record) → OnlyOfText (front_of n records)
+front_of_faults : (n i : ℕ) (records : List Record) → OnlyOfText (front_of n i records)
 unfolding front_of
-front_of_faults n records = tapes_faults 0 n (replicate n fresh) 2 (drop 1 records)
+front_of_faults n i records = tapes_faults 0 n (replicate n fresh) i records
 
-starts_faults : (n k : ℕ) (starts : List Start) (i : ℕ) (records : List Record) → OnlyOfText (starts_from n k starts i records)
-unfolding starts_from
-starts_faults n zero starts i records = tt
-starts_faults n (suc others) starts i records =
-    both_faults (one (codes "start") (start_of n starts) i records) _ (one_faults (codes "start") (start_of n starts) i records) (λ start. starts_faults n others start.value start.number start.left)
+several_faults : {A : Type 0} (name : List ℕ) (read : A → Record → Result A Fault) (k : ℕ) (before : A) (i : ℕ) (records : List Record) → OnlyOfText (several name read k before i records)
+unfolding several
+several_faults name read zero before i records = tt
+several_faults name read (suc others) before i records =
+    both_faults (one name (read before) i records) _ (one_faults name (read before) i records) (λ more. several_faults name read others more.value more.number more.left)
+
+floors_faults : (version n : ℕ) (records : List Record) → OnlyOfText (floors_of version n records)
+floors_faults version n records = several_faults (codes "floor") one_floor_more (floors_in version n) [] 2 (drop 1 records)
 
 claim_faults : (version n i : ℕ) (records : List Record) → OnlyOfText (claim_from version n i records)
 unfolding claim_from
@@ -112,8 +114,8 @@ claim_faults version n i records =
     (λ marks. both_faults (one (codes "failed") (failed_of n) marks.number marks.left) _ (one_faults (codes "failed") (failed_of n) marks.number marks.left)
     (λ failed. both_faults (one (codes "line") (line_of version) failed.number failed.left) _ (one_faults (codes "line") (line_of version) failed.number failed.left)
     (λ line. both_faults (many (is_named (codes "pass")) (entry_of n) [] line.number line.left) _ (many_faults (is_named (codes "pass")) (entry_of n) [] line.number line.left)
-    (λ entries. both_faults (starts_from n (starts_in version n) [] entries.number entries.left) _ (starts_faults n (starts_in version n) [] entries.number entries.left)
-    (λ starts. both_faults (many (is_replay version) (replay_of n) [] starts.number starts.left) _ (many_faults (is_replay version) (replay_of n) [] starts.number starts.left)
+    (λ entries. both_faults (several (codes "start") (start_of n) (starts_in (answer_version version entries.left) n) [] entries.number entries.left) _ (several_faults (codes "start") (start_of n) (starts_in (answer_version version entries.left) n) [] entries.number entries.left)
+    (λ starts. both_faults (many (is_replay (answer_version version entries.left)) (replay_of n) [] starts.number starts.left) _ (many_faults (is_replay (answer_version version entries.left)) (replay_of n) [] starts.number starts.left)
     (λ replays. both_faults (one (codes "end") end_of replays.number replays.left) _ (one_faults (codes "end") end_of replays.number replays.left)
     (λ end. both_faults (at_record end.number (want (is_none end.left) faults.BadRecord)) _ (numbered_faults end.number (want (is_none end.left) faults.BadRecord)) (λ last. tt)))))))))
 
@@ -121,8 +123,9 @@ history_faults : (records : List Record) → OnlyOfText (history_of records)
 unfolding history_of
 history_faults records =
     both_faults (head_in records) _ (head_faults records)
-    (λ head. both_faults (front_of head.1 records) _ (front_of_faults head.1 records)
-    (λ front. both_faults (at_record front.number (want (is_none front.left) faults.BadRecord)) _ (numbered_faults front.number (want (is_none front.left) faults.BadRecord)) (λ ended. tt)))
+    (λ head. both_faults (floors_of head.0 head.1 records) _ (floors_faults head.0 head.1 records)
+    (λ floors. both_faults (front_of head.1 floors.number floors.left) _ (front_of_faults head.1 floors.number floors.left)
+    (λ front. both_faults (at_record front.number (want (is_none front.left) faults.BadRecord)) _ (numbered_faults front.number (want (is_none front.left) faults.BadRecord)) (λ ended. tt))))
 
 certificate_faults : (version n : ℕ) (records : List Record) → OnlyOfText (certificate_of version n records)
 unfolding certificate_of
@@ -132,8 +135,9 @@ check_faults : (records : List Record) → OnlyOfText (check_text_of records)
 unfolding check_text_of
 check_faults records =
     both_faults (head_in records) _ (head_faults records)
-    (λ head. both_faults (front_of head.1 records) _ (front_of_faults head.1 records)
-    (λ front. both_faults (claim_from head.0 head.1 front.number front.left) _ (claim_faults head.0 head.1 front.number front.left) (λ claim. tt)))
+    (λ head. both_faults (floors_of head.0 head.1 records) _ (floors_faults head.0 head.1 records)
+    (λ floors. both_faults (front_of head.1 floors.number floors.left) _ (front_of_faults head.1 floors.number floors.left)
+    (λ front. both_faults (claim_from head.0 head.1 front.number front.left) _ (claim_faults head.0 head.1 front.number front.left) (λ claim. tt))))
 
 -- of the records of a text
 pub records_faults : (text : List ℕ) → OnlyOfText (records_in text)

@@ -15,11 +15,11 @@ use Rattle.line_tape.specs.Views.{MarksView, no_marks}
 use Rattle.line_claims.specs.declared.faults.TextFault.{TextFault}
 use Rattle.line_claims.specs.declared.numbers.TheConstants.{MOST_NUMBER}
 use Rattle.line_claims.specs.declared.versions.TheConstants.{LAST_CHECK_VERSION}
-use Rattle.line_claims.specs.Claims.{Claim, claim_from, is_bar, is_none, is_replay, starts_from}
-use Rattle.line_claims.specs.Entries.{bar_of, damage_of, end_of, entry_of, failed_of, line_of, replay_of}
-use Rattle.line_claims.specs.Histories.{front_of, head_in, head_of}
+use Rattle.line_claims.specs.Claims.{Claim, answer_version, claim_from, is_bar, is_none, is_replay}
+use Rattle.line_claims.specs.Entries.{bar_of, damage_of, end_of, entry_of, failed_of, line_of, replay_of, start_of}
+use Rattle.line_claims.specs.Histories.{floors_of, front_of, head_in, head_of}
 use Rattle.line_claims.specs.Numbers.{choices, plain}
-use Rattle.line_claims.specs.Parts.{Part, begins, first, many, is_named, one}
+use Rattle.line_claims.specs.Parts.{Part, begins, first, many, is_named, one, several}
 use Rattle.line_claims.specs.Reads.{at_record}
 use Rattle.line_claims.specs.Records.{in_version}
 use Rattle.line_claims.specs.Texts.{Check, certificate_of, certificate_of_text, check_text_of, check_of_text, history_of, history_of_text, records_in}
@@ -78,8 +78,8 @@ line_later r line h =
 abbrev behind_line : ℕ → ℕ → MarksView → List Bool → Part (List Choice) → Result Claim TextFault
 behind_line version n marks failed line = do
   entries ← many (is_named (codes "pass")) (entry_of n) [] line.number line.left
-  starts ← starts_from n (starts_in version n) [] entries.number entries.left
-  replays ← many (is_replay version) (replay_of n) [] starts.number starts.left
+  starts ← several (codes "start") (start_of n) (starts_in (answer_version version entries.left) n) [] entries.number entries.left
+  replays ← many (is_replay (answer_version version entries.left)) (replay_of n) [] starts.number starts.left
   end ← one (codes "end") end_of replays.number replays.left
   last ← at_record end.number (want (is_none end.left) faults.BadRecord)
   Ok
@@ -186,11 +186,23 @@ head_later number rest x h =
     let both = plain_later (plain number) x read in
     (both.0, ap (at_record 1) (head_is 2 number (omega arith, omega arith) ∙ both.1))
 
+-- a history behind its first record
+abbrev front_behind : ℕ → ℕ → List Record → Result (List Process) TextFault
+front_behind version n records =
+    floors_of version n records >>= λ floors. front_of n floors.number floors.left >>= λ front. at_record front.number (want (is_none front.left) faults.BadRecord) >>= λ ended. Ok front.value
+
+-- version 1 tells of nothing that was let go, as version 2 does
+no_floors : (n : ℕ) (number : List ℕ) (rest : List Record) → front_behind 1 n (in_version 1 number rest) ≡ front_behind 2 n (in_version 2 number rest)
+unfolding several
+no_floors n number rest = refl
+
 history_with : (number : List ℕ) (rest : List Record) (head : Result (ℕ × ℕ) TextFault) (history : List Process) → head_in (in_version 1 number rest) ≡ head
-    → (head >>= λ x. front_of x.1 (in_version 1 number rest) >>= λ front. at_record front.number (want (is_none front.left) faults.BadRecord) >>= λ ended. Ok front.value) ≡ Ok history
+    → (head >>= λ x. front_behind x.0 x.1 (in_version 1 number rest)) ≡ Ok history
     → history_of (in_version 2 number rest) ≡ Ok history
-unfolding history_of front_of
-history_with number rest (Ok x) history is h = rw (head_later number rest x is).1 h
+unfolding history_of
+history_with number rest (Ok x) history is h =
+    let head = head_later number rest x is in
+    rw head.1 (sym (no_floors x.1 number rest) ∙ sym (ap (λ (v : ℕ). front_behind v x.1 (in_version 1 number rest)) head.0) ∙ h)
 history_with number rest (Err fault) history is h = cc
 
 pub history_later : (number : List ℕ) (rest : List Record) (history : List Process) → history_of (in_version 1 number rest) ≡ Ok history → history_of (in_version 2 number rest) ≡ Ok history
@@ -198,23 +210,37 @@ unfolding history_of
 history_later number rest history h = history_with number rest (head_in (in_version 1 number rest)) history refl h
 
 -- a claim behind a history
-abbrev with_claim : ℕ → ℕ → Part (List Process) → Result Check TextFault
-with_claim version n front = do
+abbrev with_claim : ℕ → ℕ → List (ℕ × ℕ) → Part (List Process) → Result Check TextFault
+with_claim version n floors front = do
   claim ← claim_from version n front.number front.left
-  Ok (record { history = front.value; claim = claim })
+  Ok (record { history = front.value; floors = floors; claim = claim })
 
-same_with_claim : (version n : ℕ) (check : Check) (front : Part (List Process)) → version ≡ 1 → with_claim version n front ≡ Ok check → with_claim 2 n front ≡ Ok check
-same_with_claim version n check front is h =
-    let made : Claim → Result Check TextFault = λ claim. Ok (record { history = front.value; claim = claim }) in
+same_with_claim : (version n : ℕ) (floors : List (ℕ × ℕ)) (check : Check) (front : Part (List Process)) → version ≡ 1 → with_claim version n floors front ≡ Ok check → with_claim 2 n floors front ≡ Ok check
+same_with_claim version n floors check front is h =
+    let made : Claim → Result Check TextFault = λ claim. Ok (record { history = front.value; floors = floors; claim = claim }) in
     then_later (claim_from version n front.number front.left) (claim_from 2 n front.number front.left) made made check (λ claim k. same_claim version n front.number front.left claim is k) (λ claim k. k) h
 
+-- both behind a first record
+abbrev check_behind : ℕ → ℕ → List Record → Result Check TextFault
+check_behind version n records = floors_of version n records >>= λ floors. front_of n floors.number floors.left >>= with_claim version n floors.value
+
+-- where nothing was let go
+check_apart : (n : ℕ) (number : List ℕ) (rest : List Record) → check_behind 1 n (in_version 1 number rest) ≡ (front_of n 2 rest >>= with_claim 1 n [])
+unfolding several
+check_apart n number rest = refl
+
+check_apart_later : (n : ℕ) (number : List ℕ) (rest : List Record) → check_behind 2 n (in_version 2 number rest) ≡ (front_of n 2 rest >>= with_claim 2 n [])
+unfolding several
+check_apart_later n number rest = refl
+
 check_with : (number : List ℕ) (rest : List Record) (head : Result (ℕ × ℕ) TextFault) (check : Check) → head_in (in_version 1 number rest) ≡ head
-    → (head >>= λ x. front_of x.1 (in_version 1 number rest) >>= with_claim x.0 x.1) ≡ Ok check → check_text_of (in_version 2 number rest) ≡ Ok check
-unfolding check_text_of front_of
+    → (head >>= λ x. check_behind x.0 x.1 (in_version 1 number rest)) ≡ Ok check → check_text_of (in_version 2 number rest) ≡ Ok check
+unfolding check_text_of
 check_with number rest (Ok x) check is h =
     let head = head_later number rest x is in
-    let front : Result (Part (List Process)) TextFault = front_of x.1 (in_version 1 number rest) in
-    rw head.1 (then_later front front (with_claim x.0 x.1) (with_claim 2 x.1) check (λ y k. k) (λ y k. same_with_claim x.0 x.1 check y head.0 k) h)
+    let front : Result (Part (List Process)) TextFault = front_of x.1 2 rest in
+    let first : (front >>= with_claim 1 x.1 []) ≡ Ok check = sym (check_apart x.1 number rest) ∙ sym (ap (λ (v : ℕ). check_behind v x.1 (in_version 1 number rest)) head.0) ∙ h in
+    rw head.1 (check_apart_later x.1 number rest ∙ then_later front front (with_claim 1 x.1 []) (with_claim 2 x.1 []) check (λ y k. k) (λ y k. same_with_claim 1 x.1 [] check y refl k) first)
 check_with number rest (Err fault) check is h = cc
 
 pub check_later : (number : List ℕ) (rest : List Record) (check : Check) → check_text_of (in_version 1 number rest) ≡ Ok check → check_text_of (in_version 2 number rest) ≡ Ok check

@@ -11,6 +11,11 @@ pub mod MemoryLemmas
 pub mod PartLemmas
 pub mod PlaceLemmas
 pub mod ReadingLemmas
+pub mod SavedAgainLemmas
+pub mod SavedLemmas
+pub mod SavedRoundLemmas
+pub mod SavedTextLemmas
+pub mod SavedWriteLemmas
 pub mod SpellLemmas
 pub mod VersionLemmas
 pub mod WalkLemmas

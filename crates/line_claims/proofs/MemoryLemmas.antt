@@ -19,7 +19,7 @@ use Rattle.line_tape.specs.Event.{IsShort, NamesBelow}
 use Rattle.line_tape.specs.History.{IsHistory, IsProcess, Process}
 use Rattle.line_claims.specs.declared.numbers.TheConstants.{MOST_NUMBER}
 use Rattle.line_claims.specs.Ranges.{AreRoundsInRange, FitsMemory, FitsProcess, FitsWords, IsHistoryInRange, IsEventInRange, IsRoundInRange, IsTapeInRange}
-use Rattle.line_claims.specs.Records.{event_record, front_records, history_record, number_text, tape_record, tapes_records}
+use Rattle.line_claims.specs.Records.{event_record, floor_record, floors_records, front_records, history_record, number_text, tape_record, tapes_records}
 
 -- what holds of each place holds of each element
 pub all_by : {X : Type 0} (P : X → Type 0) (xs : List X) → All P xs → AllByRecursion P xs
@@ -221,7 +221,21 @@ tapes_apart p (a ∷ more) (b ∷ others) fit good same =
     let tapes = events_apart (p + 1) more others a.tape b.tape fit.0.1 good.0.1 (rest_same (tape_record p a.incarnation) (tape_record p b.incarnation) _ _ same) in
     ap₂ (λ (x : Process) (xs : List Process). x ∷ xs) (process_apart a b inc tapes.0) (tapes_apart (p + 1) more others fit.1 good.1 tapes.1)
 
+-- no tape begins with what was let go
+no_floor : (p q : ℕ) (processes : List Process) (floor : ℕ × ℕ) (rest : List Record) → tapes_records p processes ≡ floor_record q floor ∷ rest → ⊥
+no_floor p q [] floor rest same = cc same
+no_floor p q (process ∷ others) floor rest same =
+    apart_names (tape_record p process.incarnation) (floor_record q floor) (codes "tape") refl refl
+    (first_same (tape_record p process.incarnation) (floor_record q floor) (map event_record process.tape ++ tapes_records (p + 1) others) rest same)
+
+-- the tapes stand behind what was let go
+floors_apart : (p : ℕ) (floors others : List (ℕ × ℕ)) (ps qs : List Process) → floors_records p floors ++ tapes_records 0 ps ≡ floors_records p others ++ tapes_records 0 qs → tapes_records 0 ps ≡ tapes_records 0 qs
+floors_apart p [] [] ps qs same = same
+floors_apart p [] (o ∷ os) ps qs same = absurd (no_floor 0 p ps o _ same)
+floors_apart p (f ∷ fs) [] ps qs same = absurd (no_floor 0 p qs f _ (sym same))
+floors_apart p (f ∷ fs) (o ∷ os) ps qs same = floors_apart (p + 1) fs os ps qs (rest_same _ _ _ _ same)
+
 -- one list of records is of one history
-pub records_apart : (version later : ℕ) (history other : List Process) → FitsMemory history → FitsMemory other → front_records version history ≡ front_records later other → history ≡ other
-records_apart version later history other fit good same =
-    tapes_apart 0 history other fit.processes good.processes (rest_same (history_record version (length history)) (history_record later (length other)) _ _ same)
+pub records_apart : (version later : ℕ) (floors others : List (ℕ × ℕ)) (history other : List Process) → FitsMemory history → FitsMemory other → front_records version floors history ≡ front_records later others other → history ≡ other
+records_apart version later floors others history other fit good same =
+    tapes_apart 0 history other fit.processes good.processes (floors_apart 0 floors others history other (rest_same (history_record version (length history)) (history_record later (length other)) _ _ same))

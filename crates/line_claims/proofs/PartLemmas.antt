@@ -10,7 +10,7 @@ use Rattle.line_fields.specs.Texts.{record_text, records_text}
 use Rattle.line_tape.specs.History.{Process, fresh, process_at}
 use Rattle.line_tape.specs.Survival.{is_damaged}
 use Rattle.line_tape.specs.Views.{MarksView}
-use Rattle.line_claims.specs.Records.{bar_records, bars_records, damage_record, damages_records, tape_records, tapes_records}
+use Rattle.line_claims.specs.Records.{bar_records, bars_records, damage_record, damages_records, floor_record, floors_records, tape_records, tapes_records}
 
 -- the tapes of a history from process p on: its tape, and those behind it
 pub next_tape : (history : List Process) (p : ℕ) → p < length history
@@ -38,6 +38,22 @@ no_damages f n p le =
     let all : List (List ℕ) = map f (range_with_len 0 n) in
     let long : length all ≡ n = length-map-range_with_len f 0 n in
     ap (λ (rest : List (List ℕ)). records_text (damages_records p rest)) (drop_all p all (omega (arith, long, le)))
+
+-- what was let go from process p on: of it, and of those behind it
+pub next_floors : (f : ℕ → ℕ × ℕ) (n p : ℕ) → p < n
+    → records_text (floors_records p (drop p (map f (range_with_len 0 n)))) ≡ record_text (floor_record p (f p)) ++ records_text (floors_records (p + 1) (drop (p + 1) (map f (range_with_len 0 n))))
+next_floors f n p lt =
+    let all : List (ℕ × ℕ) = map f (range_with_len 0 n) in
+    let long : length all ≡ n = length-map-range_with_len f 0 n in
+    let there : p < length all = omega (arith, long, lt) in
+    let first : get_or all p (f p) ≡ f p = get_or-map-range_with_len f 0 n p p (f p) lt (omega arith) in
+    ap (λ (rest : List (ℕ × ℕ)). records_text (floors_records p rest)) (drop_more all p (f p) there ∙ ap (λ (x : ℕ × ℕ). x ∷ drop (p + 1) all) first)
+
+pub no_floors : (f : ℕ → ℕ × ℕ) (n p : ℕ) → n ≤ p → records_text (floors_records p (drop p (map f (range_with_len 0 n)))) ≡ []
+no_floors f n p le =
+    let all : List (ℕ × ℕ) = map f (range_with_len 0 n) in
+    let long : length all ≡ n = length-map-range_with_len f 0 n in
+    ap (λ (rest : List (ℕ × ℕ)). records_text (floors_records p rest)) (drop_all p all (omega (arith, long, le)))
 
 -- the bars from process p on: its own, and those behind it
 next_of_bars : (f : ℕ → Option ℕ) (n p : ℕ) → p < n → drop p (map f (range_with_len 0 n)) ≡ f p ∷ drop (p + 1) (map f (range_with_len 0 n))

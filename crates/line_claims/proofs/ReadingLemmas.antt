@@ -1,8 +1,9 @@
 -- The parts of a text, taken record by record.
-use Rattle.std.proofs.Common.{◌≡◌, ◌<◌, ◌≤◌, ℕ, zero, suc, ◌+◌, ◌-◌, Bool, true, false, List, [], ◌∷◌, length, Result, Ok, Err, ◌⊎◌, inl, inr, refl, sym, subst, ap, ◌∙◌, arith}
+use Rattle.std.proofs.Common.{cond, ◌≡◌, ◌<◌, ◌≤◌, ℕ, zero, suc, ◌+◌, ◌-◌, Bool, true, false, List, [], ◌∷◌, length, Result, Ok, Err, ◌⊎◌, inl, inr, refl, sym, subst, ap, ◌∙◌, arith, le-leb}
 use Rattle.std.specs.Prelude.{◌++◌, codes}
 use Rattle.std.proofs.lemmas.Bool.{cases_lt}
 use Rattle.std.proofs.lemmas.List.{append-nil}
+use Rattle.line_check.specs.declared.answers.Replay.{Replay}
 use Rattle.line_check.specs.declared.answers.Start.{Start}
 use Rattle.line_fields.specs.declared.faults.Fault.{Fault}
 use Rattle.line_fields.specs.declared.faults.Fault.TheVariants as faults
@@ -16,13 +17,13 @@ use Rattle.line_claims.specs.declared.claims.ClaimStage.TheVariants as stages
 use Rattle.line_claims.specs.declared.faults.TextError.{TextError}
 use Rattle.line_claims.specs.declared.faults.TextError.TheVariants as text_errors
 use Rattle.line_claims.specs.declared.faults.TextFault.{TextFault}
-use Rattle.line_claims.specs.Claims.{Claim, starts_from}
-use Rattle.line_claims.specs.Entries.{start_of}
+use Rattle.line_claims.specs.Claims.{Claim, answer_version, is_line_alone, is_replay}
+use Rattle.line_claims.specs.Entries.{replay_of, start_of}
 use Rattle.line_claims.specs.Events.{is_event}
-use Rattle.line_claims.specs.Histories.{event_at, tape_from, tape_of, tapes_from}
-use Rattle.line_claims.specs.Parts.{Part, begins, is_named, many, one}
+use Rattle.line_claims.specs.Histories.{event_at, one_floor_more, tape_from, tape_of, tapes_from}
+use Rattle.line_claims.specs.Parts.{Part, begins, is_named, many, one, several}
 use Rattle.line_claims.specs.Reads.{FailsText, error_at, fault_of_record}
-use Rattle.line_claims.specs.Stages.{Goes, claim_left, open_tape, replays_left, starts_left, starts_to_come, tapes_left, whole_front}
+use Rattle.line_claims.specs.Stages.{Goes, answer_left, claim_left, end_left, floors_left, open_tape, part_end, replays_left, starts_left, starts_to_come, tapes_left, whole_front}
 use Rattle.line_claims.specs.Versions.{starts_in}
 
 pub first_more : {A : Type 0} (is : Record → Bool) (read : A → Record → Result A Fault) (before more : A) (i : ℕ) (r : Record) (rest : List Record)
@@ -106,24 +107,28 @@ next_of : {A B C : Type 0} (read : Result A TextFault) (more : A → Result B Te
 next_of (Ok x) more next = refl
 next_of (Err fault) more next = refl
 
-pub starts_next : (n others : ℕ) (starts : List Start) (i : ℕ) (left : List Record)
-    → starts_from n (suc others) starts i left ≡ (one (codes "start") (start_of n starts) i left >>= λ start. starts_from n others start.value start.number start.left)
-unfolding starts_from
-starts_next n others starts i left = refl
+pub several_next : {A : Type 0} (name : List ℕ) (read : A → Record → Result A Fault) (others : ℕ) (before : A) (i : ℕ) (left : List Record)
+    → several name read (suc others) before i left ≡ (one name (read before) i left >>= λ more. several name read others more.value more.number more.left)
+unfolding several
+several_next name read others before i left = refl
 
--- of none it is to come
-starts_end : {B : Type 0} (n k : ℕ) (starts : List Start) (i : ℕ) (left : List Record) (next : Part (List Start) → Result B TextFault) → k ≡ 0
-    → (starts_from n k starts i left >>= next) ≡ next (record { value = starts; number = i; left = left })
-unfolding starts_from
-starts_end n k starts i left next none = ap (λ (m : ℕ). starts_from n m starts i left >>= next) none
+-- none is to come
+pub several_none : {A : Type 0} (name : List ℕ) (read : A → Record → Result A Fault) (k : ℕ) (before : A) (i : ℕ) (left : List Record) → k ≡ 0
+    → several name read k before i left ≡ Ok (record { value = before; number = i; left = left })
+unfolding several
+several_none name read k before i left none = ap (λ (m : ℕ). several name read m before i left) none
 
--- of one more it is to come
-starts_first : {B : Type 0} (n k others : ℕ) (starts : List Start) (i : ℕ) (left : List Record) (next : Part (List Start) → Result B TextFault) → k ≡ suc others
-    → (starts_from n k starts i left >>= next) ≡ (one (codes "start") (start_of n starts) i left >>= λ start. (starts_from n others start.value start.number start.left >>= next))
-starts_first n k others starts i left next more =
-    ap (λ (m : ℕ). starts_from n m starts i left >>= next) more
-    ∙ ap (λ (read : Result (Part (List Start)) TextFault). read >>= next) (starts_next n others starts i left)
-    ∙ next_of (one (codes "start") (start_of n starts) i left) (λ start. starts_from n others start.value start.number start.left) next
+several_end : {A B : Type 0} (name : List ℕ) (read : A → Record → Result A Fault) (k : ℕ) (before : A) (i : ℕ) (left : List Record) (next : Part A → Result B TextFault) → k ≡ 0
+    → (several name read k before i left >>= next) ≡ next (record { value = before; number = i; left = left })
+several_end {A} name read k before i left next none = ap (λ (read : Result (Part A) TextFault). read >>= next) (several_none name read k before i left none)
+
+-- one more is to come
+several_first : {A B : Type 0} (name : List ℕ) (read : A → Record → Result A Fault) (k others : ℕ) (before : A) (i : ℕ) (left : List Record) (next : Part A → Result B TextFault) → k ≡ suc others
+    → (several name read k before i left >>= next) ≡ (one name (read before) i left >>= λ more. (several name read others more.value more.number more.left >>= next))
+several_first {A} name read k others before i left next more =
+    ap (λ (m : ℕ). several name read m before i left >>= next) more
+    ∙ ap (λ (r : Result (Part A) TextFault). r >>= next) (several_next name read others before i left)
+    ∙ next_of (one name (read before) i left) (λ more. several name read others more.value more.number more.left) next
 
 -- how many that are
 to_come : (count : ℕ) (starts : List Start) → starts_to_come count starts ≡ count - length starts
@@ -133,14 +138,14 @@ to_come count (start ∷ others) = refl
 -- that of all was taken
 pub starts_taken : (version n : ℕ) (claim : Claim) (i : ℕ) (left : List Record) → starts_in version n ≤ length claim.starts → starts_left version n claim i left ≡ replays_left version n claim i left
 starts_taken version n claim i left all =
-    starts_end n (starts_to_come (starts_in version n) claim.starts) claim.starts i left _ (to_come (starts_in version n) claim.starts ∙ omega (arith, all))
+    several_end (codes "start") (start_of n) (starts_to_come (starts_in version n) claim.starts) claim.starts i left _ (to_come (starts_in version n) claim.starts ∙ omega (arith, all))
 
 -- the next is another record
 pub start_missing : (version n : ℕ) (claim : Claim) (i : ℕ) (r : Record) (rest : List Record) → length claim.starts < starts_in version n → is_named (codes "start") r ≡ false
     → starts_left version n claim i (r ∷ rest) ≡ Err (fault_of_record i faults.BadRecord)
 start_missing version n claim i r rest more other =
     let one_more : starts_to_come (starts_in version n) claim.starts ≡ suc (starts_in version n - (length claim.starts + 1)) = to_come (starts_in version n) claim.starts ∙ omega (arith, more) in
-    starts_first n (starts_to_come (starts_in version n) claim.starts) _ claim.starts i (r ∷ rest) _ one_more ∙ one_missing (codes "start") (start_of n claim.starts) i r rest _ other
+    several_first (codes "start") (start_of n) (starts_to_come (starts_in version n) claim.starts) _ claim.starts i (r ∷ rest) _ one_more ∙ one_missing (codes "start") (start_of n claim.starts) i r rest _ other
 
 -- it has a fault
 pub start_fault : (version n : ℕ) (claim : Claim) (i : ℕ) (r : Record) (rest : List Record) (e : ReadError) → length claim.starts < starts_in version n → is_named (codes "start") r ≡ true
@@ -148,7 +153,7 @@ pub start_fault : (version n : ℕ) (claim : Claim) (i : ℕ) (r : Record) (rest
 start_fault version n claim i r rest errors.OutOfMemory more it h = tt
 start_fault version n claim i r rest (errors.Fault f) more it h =
     let one_more : starts_to_come (starts_in version n) claim.starts ≡ suc (starts_in version n - (length claim.starts + 1)) = to_come (starts_in version n) claim.starts ∙ omega (arith, more) in
-    starts_first n (starts_to_come (starts_in version n) claim.starts) _ claim.starts i (r ∷ rest) _ one_more ∙ one_refused (codes "start") (start_of n claim.starts) i r rest f _ it h
+    several_first (codes "start") (start_of n) (starts_to_come (starts_in version n) claim.starts) _ claim.starts i (r ∷ rest) _ one_more ∙ one_refused (codes "start") (start_of n claim.starts) i r rest f _ it h
 
 -- it was read
 pub start_read : (version n : ℕ) (claim : Claim) (more : List Start) (i : ℕ) (r : Record) (rest : List Record) → length claim.starts < starts_in version n → is_named (codes "start") r ≡ true
@@ -157,9 +162,71 @@ start_read version n claim more i r rest further it h longer =
     let others : ℕ = starts_in version n - (length claim.starts + 1) in
     let one_more : starts_to_come (starts_in version n) claim.starts ≡ suc others = to_come (starts_in version n) claim.starts ∙ omega (arith, further) in
     let left : starts_to_come (starts_in version n) more ≡ others = to_come (starts_in version n) more ∙ omega (arith, longer) in
-    starts_first n (starts_to_come (starts_in version n) claim.starts) others claim.starts i (r ∷ rest) _ one_more
+    several_first (codes "start") (start_of n) (starts_to_come (starts_in version n) claim.starts) others claim.starts i (r ∷ rest) _ one_more
     ∙ one_read (codes "start") (start_of n claim.starts) more i r rest _ it h
-    ∙ ap (λ (k : ℕ). starts_from n k more (i + 1) rest >>= λ starts. replays_left version n (record claim { starts = starts.value }) starts.number starts.left) (sym left)
+    ∙ ap (λ (k : ℕ). several (codes "start") (start_of n) k more (i + 1) rest >>= λ starts. replays_left version n (record claim { starts = starts.value }) starts.number starts.left) (sym left)
+
+-- ---- the messages that are sent again
+
+replay_named : (version : ℕ) (r : Record) → 3 ≤ version → is_named (codes "replay") r ≡ true → is_replay version r ≡ true
+replay_named version r known it = rw (le-leb 3 version known, it) refl
+
+-- the next was read
+pub replay_taken : (version n : ℕ) (claim : Claim) (more : List Replay) (i : ℕ) (r : Record) (rest : List Record) → 3 ≤ version → is_named (codes "replay") r ≡ true → replay_of n claim.replays r ≡ Ok more
+    → replays_left version n claim i (r ∷ rest) ≡ replays_left version n (record claim { replays = more }) (i + 1) rest
+replay_taken version n claim more i r rest known it h = then_more (is_replay version) (replay_of n) claim.replays more i r rest _ (replay_named version r known it) h
+
+-- it has a fault
+pub replay_fault : (version n : ℕ) (claim : Claim) (i : ℕ) (r : Record) (rest : List Record) (e : ReadError) → 3 ≤ version → is_named (codes "replay") r ≡ true → Fails e (replay_of n claim.replays r)
+    → FailsText (error_at i e) (replays_left version n claim i (r ∷ rest))
+replay_fault version n claim i r rest e known it h = then_fault (is_replay version) (replay_of n) claim.replays i r rest e _ (replay_named version r known it) h
+
+-- ---- what stands behind the entries
+
+-- the claim says of no process where it goes on
+pub alone_ends : (version n : ℕ) (claim : Claim) (i : ℕ) (r : Record) (rest : List Record) → is_line_alone version (r ∷ rest) ≡ true → answer_left version n claim i (r ∷ rest) ≡ end_left claim i (r ∷ rest)
+alone_ends version n claim i r rest alone =
+    let none : starts_in 2 n ≤ length claim.starts = omega arith in
+    ap (λ (b : Bool). starts_left (cond b 2 version) n claim i (r ∷ rest)) alone ∙ starts_taken 2 n claim i (r ∷ rest) none ∙ then_end _ _ claim.replays i r rest _ refl
+
+-- it may say it of them
+pub answer_goes_on : (version n : ℕ) (claim : Claim) (i : ℕ) (r : Record) (rest : List Record) → is_line_alone version (r ∷ rest) ≡ false → answer_left version n claim i (r ∷ rest) ≡ starts_left version n claim i (r ∷ rest)
+answer_goes_on version n claim i r rest other = ap (λ (b : Bool). starts_left (cond b 2 version) n claim i (r ∷ rest)) other
+
+-- ---- what was let go
+
+-- the next is another record
+pub floor_missing : (others : ℕ) (floors : List (ℕ × ℕ)) (i : ℕ) (r : Record) (rest : List Record) → is_named (codes "floor") r ≡ false → floors_left (suc others) floors i (r ∷ rest) ≡ Err (fault_of_record i faults.BadRecord)
+floor_missing others floors i r rest other = several_next (codes "floor") one_floor_more others floors i (r ∷ rest) ∙ one_missing (codes "floor") (one_floor_more floors) i r rest _ other
+
+-- it has a fault
+pub floor_fault : (others : ℕ) (floors : List (ℕ × ℕ)) (i : ℕ) (r : Record) (rest : List Record) (e : ReadError) → is_named (codes "floor") r ≡ true → Fails e (one_floor_more floors r) → FailsText (error_at i e) (floors_left (suc others) floors i (r ∷ rest))
+floor_fault others floors i r rest errors.OutOfMemory it h = tt
+floor_fault others floors i r rest (errors.Fault f) it h = several_next (codes "floor") one_floor_more others floors i (r ∷ rest) ∙ one_refused (codes "floor") (one_floor_more floors) i r rest f _ it h
+
+-- it was read
+pub floor_taken : (others : ℕ) (floors more : List (ℕ × ℕ)) (i : ℕ) (r : Record) (rest : List Record) → is_named (codes "floor") r ≡ true → one_floor_more floors r ≡ Ok more → floors_left (suc others) floors i (r ∷ rest) ≡ floors_left others more (i + 1) rest
+floor_taken others floors more i r rest it h = several_next (codes "floor") one_floor_more others floors i (r ∷ rest) ∙ one_read (codes "floor") (one_floor_more floors) more i r rest _ it h
+
+-- there is none
+pub floor_none : (others : ℕ) (floors : List (ℕ × ℕ)) (i : ℕ) → floors_left (suc others) floors i [] ≡ Err (fault_of_record i faults.BadRecord)
+floor_none others floors i = several_next (codes "floor") one_floor_more others floors i [] ∙ one_none (codes "floor") (one_floor_more floors) i _
+
+-- that of all was taken
+pub floors_taken : (k : ℕ) (floors : List (ℕ × ℕ)) (i : ℕ) (left : List Record) → k ≡ 0 → floors_left k floors i left ≡ Ok (record { value = floors; number = i; left = left })
+floors_taken k floors i left none = several_none (codes "floor") one_floor_more k floors i left none
+
+-- a fault of it is one of its place
+pub place_fails : {A : Type 0} (e : TextError) (read : Result (Part A) TextFault) → FailsText e read → FailsText e (part_end read)
+place_fails text_errors.OutOfMemory read h = tt
+place_fails (text_errors.Fault f) read h = rw h refl
+
+-- a step of one part is a step of what goes on with it
+pub goes_before : {A B C : Type 0} (result : Result C TextError) (old : List Record → Result A TextFault) (new : C → List Record → Result A TextFault) (next : A → Result B TextFault) (r : Record)
+    → Goes result old new r → Goes result (λ left. old left >>= next) (λ x left. new x left >>= next) r
+goes_before {A} (Ok x) old new next r h = λ rest. ap (λ (read : Result A TextFault). read >>= next) (h rest)
+goes_before (Err text_errors.OutOfMemory) old new next r h = λ rest. tt
+goes_before (Err (text_errors.Fault f)) old new next r h = λ rest. rw (h rest) refl
 
 -- ---- a claim that ends too soon
 
@@ -171,7 +238,7 @@ starts_open : (version n : ℕ) (claim : Claim) (i : ℕ) → starts_left versio
 starts_open version n claim i = elim (cases_lt (length claim.starts) (starts_in version n)) [
   | inl more ↦
       let one_more : starts_to_come (starts_in version n) claim.starts ≡ suc (starts_in version n - (length claim.starts + 1)) = to_come (starts_in version n) claim.starts ∙ omega (arith, more) in
-      starts_first n (starts_to_come (starts_in version n) claim.starts) _ claim.starts i [] _ one_more ∙ one_none (codes "start") (start_of n claim.starts) i _
+      several_first (codes "start") (start_of n) (starts_to_come (starts_in version n) claim.starts) _ claim.starts i [] _ one_more ∙ one_none (codes "start") (start_of n claim.starts) i _
   | inr all ↦ starts_taken version n claim i [] all ∙ replays_open version n claim i
 ]
 
@@ -180,7 +247,7 @@ unfolding many one
 claim_open stages.Damage version n claim i other = refl
 claim_open stages.Bars version n claim i other = refl
 claim_open stages.Line version n claim i other = refl
-claim_open stages.Entries version n claim i other = starts_open version n claim i
+claim_open stages.Entries version n claim i other = starts_open (answer_version version []) n claim i
 claim_open stages.Starts version n claim i other = starts_open version n claim i
 claim_open stages.Replays version n claim i other = refl
 claim_open stages.Nothing version n claim i other = absurd (other refl)

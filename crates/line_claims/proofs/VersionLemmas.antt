@@ -4,7 +4,7 @@ use Rattle.std.specs.Prelude.{nat_le}
 use Rattle.std.proofs.lemmas.Bool.{leb-true}
 use Rattle.line_names.specs.declared.limits.TheConstants.{MOST_PROCESSES}
 use Rattle.line_claims.specs.declared.versions.TheConstants.{MOST_IN_FIRST_VERSION}
-use Rattle.line_claims.specs.Versions.{IsCheckVersion, IsVersion, earliest_version, most_in, starts_in}
+use Rattle.line_claims.specs.Versions.{IsCheckVersion, IsVersion, earliest_version, floors_in, most_in, starts_in}
 
 -- never more than there may be
 pub most_in_few : (version : ℕ) → most_in version ≤ MOST_PROCESSES
@@ -28,6 +28,11 @@ earliest_is_checked n = elim (nat_le n MOST_IN_FIRST_VERSION) as (λ (b : Bool).
   | true ↦ (omega arith, omega arith)
   | false ↦ (omega arith, omega arith)
 ]
+
+-- and one that tells of nothing that was let go
+pub earliest_is_early : (n : ℕ) → nat_le 4 (earliest_version n) ≡ false
+unfolding earliest_version
+earliest_is_early n = elim (nat_le n MOST_IN_FIRST_VERSION) as (λ (b : Bool). nat_le 4 (cond b 1 2) ≡ false) [ true ↦ refl | false ↦ refl ]
 
 -- the earliest version has room for so many processes
 pub earliest_has_room : (n : ℕ) → n ≤ MOST_PROCESSES → n ≤ most_in (earliest_version n)
@@ -57,4 +62,8 @@ most_in_later n few = omega (arith, few, more_room)
 
 -- a claim says of no more processes than there are where they go on
 pub starts_few : (version n : ℕ) → starts_in version n ≤ n
-starts_few version n = elim (version == 3) as (λ (b : Bool). cond b n 0 ≤ n) [ true ↦ omega arith | false ↦ omega arith ]
+starts_few version n = elim (nat_le 3 version) as (λ (b : Bool). cond b n 0 ≤ n) [ true ↦ omega arith | false ↦ omega arith ]
+
+-- a history tells of no more processes than there are what was let go of them
+pub floors_few : (version n : ℕ) → floors_in version n ≤ n
+floors_few version n = elim (nat_le 4 version) as (λ (b : Bool). cond b n 0 ≤ n) [ true ↦ omega arith | false ↦ omega arith ]

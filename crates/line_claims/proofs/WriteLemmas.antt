@@ -13,7 +13,7 @@ use Rattle.line_names.specs.declared.choices.Choice.{Choice}
 use Rattle.line_names.specs.Sets.{is_member}
 use Rattle.line_tape.specs.History.{Process}
 use Rattle.line_claims.specs.Claims.{Claim}
-use Rattle.line_claims.specs.Records.{check_records_in, choice_text, end_record, failed_record, front_records, judged_records, line_record, marks_records, members, pass_record, full_replay_record, rest_records, starts_records}
+use Rattle.line_claims.specs.Records.{check_records_in, choice_text, end_record, failed_record, floors_records, front_records, history_record, judged_records, line_record, marks_records, members, pass_record, full_replay_record, rest_records, starts_records, tapes_records}
 
 -- a comma and the number of each member of a set behind the first i of n, and the end of the record
 abbrev pub members_behind : List Bool → ℕ → ℕ → List ℕ
@@ -85,9 +85,16 @@ pub out_last : {A : Type 0} {r : Result A DeviceFault} {a b c : Option (List ℕ
 out_last {A} {r} {a} {b} {c} {f} {g} {h} {held} {now} {later} {total} {left} part same before own =
     outputs_on held before.done part total (before.parts ∙ ap (λ (t : List ℕ). before.done ++ t) same) before.out own
 
-pub front_first : (version : ℕ) (history : List Process) (claim : Claim) → records_text (check_records_in version history claim)
-    ≡ records_text (front_records version history) ++ records_text (marks_records claim.marks ++ judged_records (length history) claim.failed claim.line claim.certificate claim.starts claim.replays)
-front_first version history claim = both_texts (front_records version history) (marks_records claim.marks ++ judged_records (length history) claim.failed claim.line claim.certificate claim.starts claim.replays)
+pub head_next : (version : ℕ) (floors : List (ℕ × ℕ)) (history : List Process) → records_text (front_records version floors history)
+    ≡ record_text (history_record version (length history)) ++ records_text (floors_records 0 floors ++ tapes_records 0 history)
+head_next version floors history = refl
+
+pub floors_next : (floors : List (ℕ × ℕ)) (history : List Process) → records_text (floors_records 0 floors ++ tapes_records 0 history) ≡ records_text (floors_records 0 floors) ++ records_text (tapes_records 0 history)
+floors_next floors history = both_texts (floors_records 0 floors) (tapes_records 0 history)
+
+pub front_first : (version : ℕ) (floors : List (ℕ × ℕ)) (history : List Process) (claim : Claim) → records_text (check_records_in version floors history claim)
+    ≡ records_text (front_records version floors history) ++ records_text (marks_records claim.marks ++ judged_records (length history) claim.failed claim.line claim.certificate claim.starts claim.replays)
+front_first version floors history claim = both_texts (front_records version floors history) (marks_records claim.marks ++ judged_records (length history) claim.failed claim.line claim.certificate claim.starts claim.replays)
 
 pub marks_next : (n : ℕ) (claim : Claim) → records_text (marks_records claim.marks ++ judged_records n claim.failed claim.line claim.certificate claim.starts claim.replays)
     ≡ records_text (marks_records claim.marks) ++ records_text (judged_records n claim.failed claim.line claim.certificate claim.starts claim.replays)

@@ -1,6 +1,6 @@
 -- The records of a history have plain fields.
-use Rattle.std.proofs.Common.{◌≡◌, ◌≤◌, ◌<◌, ℕ, zero, suc, ◌+◌, ◌^◌, true, List, [], ◌∷◌, Some, None, length, get_or, refl, arith, ◌∙◌, sym, ap, Ok}
-use Rattle.std.specs.Prelude.{map}
+use Rattle.std.proofs.Common.{cond, Bool, false, ◌≡◌, ◌≤◌, ◌<◌, ℕ, zero, suc, ◌+◌, ◌^◌, true, List, [], ◌∷◌, Some, None, length, get_or, refl, arith, ◌∙◌, sym, ap, Ok}
+use Rattle.std.specs.Prelude.{map, nat_le}
 use Rattle.std.specs.List.{AllByRecursion, list_all}
 use Rattle.std.proofs.lemmas.List.Folds.{list_all-append}
 use Rattle.line_fields.specs.Records.{records_of_text}
@@ -11,12 +11,14 @@ use Rattle.line_tape.specs.declared.events.Event.{Event}
 use Rattle.line_tape.specs.declared.events.Event.TheVariants.{Send, Recv, Check, Mark}
 use Rattle.line_tape.specs.History.{Process}
 use Rattle.line_claims.specs.declared.versions.TheConstants.{LAST_CHECK_VERSION}
-use Rattle.line_claims.specs.Ranges.{FitsMemory, FitsProcess, FitsWords, IsHistoryInRange}
-use Rattle.line_claims.specs.Records.{event_record, front_records, tape_records, tapes_records}
+use Rattle.line_claims.specs.declared.numbers.TheConstants.{MOST_NUMBER}
+use Rattle.line_claims.specs.Ranges.{AreFloorsInRange, FitsMemory, FitsProcess, FitsWords, IsHistoryInRange}
+use Rattle.line_claims.specs.Records.{event_record, floors_records, front_records, tape_records, tapes_records}
 use Rattle.line_claims.specs.Texts.{history_of_text}
 use Rattle.line_claims.specs.Versions.{IsCheckVersion, most_in}
 use Rattle.line_claims.proofs.AgainLemmas.{history_again}
 use Rattle.line_claims.proofs.MemoryLemmas.{history_fits, records_apart}
+use Rattle.line_claims.proofs.VersionLemmas.{floors_few}
 
 pub byte_at : (bytes : List ℕ) → AllByRecursion (λ byte. byte < 256) bytes → (i : ℕ) → get_or bytes i 0 < 256
 byte_at [] fit i = omega arith
@@ -62,28 +64,48 @@ tapes_are_written p (process ∷ others) room fit =
     let more = tapes_are_written (p + 1) others (omega arith) fit.1 in
     rw (list_all-append is_written (tape_records p process) (tapes_records (p + 1) others), one, more) refl
 
-memory_is_written : (version : ℕ) (history : List Process) → IsCheckVersion version → FitsMemory history → list_all is_written (front_records version history) ≡ true
-memory_is_written version history known fit =
+floors_are_written : (p : ℕ) (floors : List (ℕ × ℕ)) → p + length floors < 2 ^ 32 → AllByRecursion (λ floor. (floor.0 ≤ MOST_NUMBER) × (floor.1 ≤ MOST_NUMBER)) floors → list_all is_written (floors_records p floors) ≡ true
+floors_are_written p [] room fit = refl
+floors_are_written p (floor ∷ others) room fit =
+    let check : floor.0 ≤ MOST_NUMBER = fit.0.0 in
+    let sends : floor.1 ≤ MOST_NUMBER = fit.0.1 in
+    let a : p < 2 ^ 64 = omega (arith, room) in
+    let b : floor.0 < 2 ^ 64 = omega (arith, check) in
+    let c : floor.1 < 2 ^ 64 = omega (arith, sends) in
+    rw (plain_decimal p a, plain_decimal floor.0 b, plain_decimal floor.1 c) (floors_are_written (p + 1) others (omega (arith, room)) fit.1)
+
+memory_is_written : (version : ℕ) (floors : List (ℕ × ℕ)) (history : List Process) → IsCheckVersion version → AreFloorsInRange version (length history) floors → FitsMemory history → list_all is_written (front_records version floors history) ≡ true
+memory_is_written version floors history known good fit =
     let few = fit.few in
     let last : version ≤ LAST_CHECK_VERSION = known.1 in
     let small : version < 2 ^ 64 = omega (arith, last) in
     let fits : length history < 2 ^ 64 = omega (arith, few) in
-    rw (plain_decimal version small, plain_decimal (length history) fits) (tapes_are_written 0 history (omega (arith, few)) fit.processes)
+    let counted = good.counted in
+    let room : 0 + length floors < 2 ^ 32 = omega (arith, few, counted, floors_few version (length history)) in
+    rw (plain_decimal version small, plain_decimal (length history) fits, list_all-append is_written (floors_records 0 floors) (tapes_records 0 history), floors_are_written 0 floors room good.numbers)
+    (tapes_are_written 0 history (omega (arith, few)) fit.processes)
 
-pub history_is_written : (version : ℕ) (history : List Process) → IsCheckVersion version → IsHistoryInRange history → list_all is_written (front_records version history) ≡ true
-history_is_written version history known fit = memory_is_written version history known (history_fits history fit)
+pub history_is_written : (version : ℕ) (floors : List (ℕ × ℕ)) (history : List Process) → IsCheckVersion version → AreFloorsInRange version (length history) floors → IsHistoryInRange history → list_all is_written (front_records version floors history) ≡ true
+history_is_written version floors history known good fit = memory_is_written version floors history known good (history_fits history fit)
 
-pub text_again : (version : ℕ) (history : List Process) → IsCheckVersion version → IsHistoryInRange history → length history ≤ most_in version → history_of_text (records_text (front_records version history)) ≡ Ok history
-text_again version history known fit room =
-    let written = history_is_written version history known fit in
-    rw (written_is_input (front_records version history) written, written_is_read (front_records version history) written) (history_again version history known fit room)
+pub text_again : (version : ℕ) (floors : List (ℕ × ℕ)) (history : List Process) → IsCheckVersion version → AreFloorsInRange version (length history) floors → IsHistoryInRange history → length history ≤ most_in version
+    → history_of_text (records_text (front_records version floors history)) ≡ Ok history
+text_again version floors history known good fit room =
+    let written = history_is_written version floors history known good fit in
+    rw (written_is_input (front_records version floors history) written, written_is_read (front_records version floors history) written) (history_again version floors history known good fit room)
 
 -- the records of a history are read from its text
-records_again : (version : ℕ) (history : List Process) → IsCheckVersion version → FitsMemory history → records_of_text (records_text (front_records version history)) ≡ front_records version history
-records_again version history known fit = written_is_read (front_records version history) (memory_is_written version history known fit)
+records_again : (version : ℕ) (floors : List (ℕ × ℕ)) (history : List Process) → IsCheckVersion version → AreFloorsInRange version (length history) floors → FitsMemory history
+    → records_of_text (records_text (front_records version floors history)) ≡ front_records version floors history
+records_again version floors history known good fit = written_is_read (front_records version floors history) (memory_is_written version floors history known good fit)
 
 -- one text is of one history
-pub one_history : (version later : ℕ) (history other : List Process) → IsCheckVersion version → IsCheckVersion later → FitsMemory history → FitsMemory other
-    → records_text (front_records version history) ≡ records_text (front_records later other) → history ≡ other
-one_history version later history other known also fit good same =
-    records_apart version later history other fit good (sym (records_again version history known fit) ∙ ap records_of_text same ∙ records_again later other also good)
+pub one_history : (version later : ℕ) (floors others : List (ℕ × ℕ)) (history other : List Process) → IsCheckVersion version → IsCheckVersion later
+    → AreFloorsInRange version (length history) floors → AreFloorsInRange later (length other) others → FitsMemory history → FitsMemory other
+    → records_text (front_records version floors history) ≡ records_text (front_records later others other) → history ≡ other
+one_history version later floors others history other known also told heard fit good same =
+    records_apart version later floors others history other fit good (sym (records_again version floors history known told fit) ∙ ap records_of_text same ∙ records_again later others other also heard good)
+
+-- a text of an earlier version tells of nothing that was let go
+pub none_in_range : (version n : ℕ) → nat_le 4 version ≡ false → AreFloorsInRange version n []
+none_in_range version n early = record { counted = ap (λ (b : Bool). cond b n 0) (sym early); numbers = tt }

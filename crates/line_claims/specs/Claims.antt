@@ -1,6 +1,6 @@
 -- Which claim a list of records spells, and the first fault where it spells none.
-use Rattle.std.specs.Prelude.{ℕ, zero, suc, ◌==◌, ◌&&◌, nat_le, Bool, true, false, List, []}
-use Rattle.std.specs.Prelude.{◌∷◌, Result, Ok, codes}
+use Rattle.std.specs.Prelude.{ℕ, ◌==◌, ◌&&◌, nat_le, not, Bool, true, false, List, [], ◌∷◌}
+use Rattle.std.specs.Prelude.{Result, Ok, codes, if◌then◌else◌}
 use Rattle.line_names.specs.declared.certificates.Passed.{Passed}
 use Rattle.line_names.specs.declared.choices.Choice.{Choice}
 use Rattle.line_check.specs.declared.answers.Replay.{Replay}
@@ -13,7 +13,7 @@ use Rattle.line_claims.specs.declared.claims.Claim as made
 use Rattle.line_claims.specs.declared.faults.TextFault.{TextFault}
 use Rattle.line_claims.specs.Entries.{damage_of, bar_of, failed_of, line_of, entry_of, start_of}
 use Rattle.line_claims.specs.Entries.{replay_of, end_of}
-use Rattle.line_claims.specs.Parts.{Part, many, is_named, one}
+use Rattle.line_claims.specs.Parts.{begins, many, is_named, one, several}
 use Rattle.line_claims.specs.Reads.{at_record}
 use Rattle.line_claims.specs.Versions.{starts_in}
 
@@ -50,16 +50,15 @@ is_bar version r = nat_le 2 version && is_named (codes "bar") r
 
 -- a record of a message that is sent again, which version 3 knows
 abbrev pub is_replay : ℕ → Record → Bool
-is_replay version r = (version == 3) && is_named (codes "replay") r
+is_replay version r = nat_le 3 version && is_named (codes "replay") r
 
--- where so many processes go on, after these, by records the first of which is the i-th
-unfoldable pub starts_from : ℕ → ℕ → List Start → ℕ → List Record
-    → Result (Part (List Start)) TextFault
-starts_from n zero starts i records =
-    Ok (record { value = starts; number = i; left = records })
-starts_from n (suc others) starts i records = do
-  start ← one (codes "start") (start_of n starts) i records
-  starts_from n others start.value start.number start.left
+-- these records after the entries of a claim of version 4 do not tell where processes go on
+abbrev pub is_line_alone : ℕ → List Record → Bool
+is_line_alone version records = (version == 4) && not (begins (is_named (codes "start")) records)
+
+-- the version as which they are read: such a claim is as one of version 2
+abbrev pub answer_version : ℕ → List Record → ℕ
+answer_version version records = if is_line_alone version records then 2 else version
 
 -- the claim of that version among n processes that records spell, the first of which is the i-th of
 -- the text
@@ -70,8 +69,10 @@ claim_from version n i records = do
   failed ← one (codes "failed") (failed_of n) marks.number marks.left
   line ← one (codes "line") (line_of version) failed.number failed.left
   entries ← many (is_named (codes "pass")) (entry_of n) [] line.number line.left
-  starts ← starts_from n (starts_in version n) [] entries.number entries.left
-  replays ← many (is_replay version) (replay_of n) [] starts.number starts.left
+  starts ← several (codes "start") (start_of n)
+      (starts_in (answer_version version entries.left) n) [] entries.number entries.left
+  replays ← many (is_replay (answer_version version entries.left)) (replay_of n) [] starts.number
+      starts.left
   end ← one (codes "end") end_of replays.number replays.left
   last ← at_record end.number (want (is_none end.left) faults.BadRecord)
   Ok

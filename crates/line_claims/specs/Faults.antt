@@ -44,4 +44,7 @@ name_of code =
     else if code == 45 then codes "ReplayRepeated"
     else if code == 46 then codes "ReplayMissing"
     else if code == 47 then codes "StaleReport"
+    else if code == 48 then codes "NoSuchRound"
+    else if code == 49 then codes "RoundLost"
+    else if code == 50 then codes "NoMoreNumbers"
     else []

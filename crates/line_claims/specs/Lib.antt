@@ -9,6 +9,9 @@ pub mod Ranges
 pub mod Readings
 pub mod Reads
 pub mod Records
+pub mod Saved
+pub mod SavedRanges
+pub mod SavedReadings
 pub mod Stages
 pub mod Texts
 pub mod Versions

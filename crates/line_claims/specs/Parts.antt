@@ -1,6 +1,6 @@
 -- The parts that a text is made of: one record with a name, or any number of records of a kind.
-use Rattle.std.specs.Prelude.{ℕ, ◌+◌, Bool, false, List, [], ◌∷◌, drop, slice_index_or, Result}
-use Rattle.std.specs.Prelude.{Ok, if◌then◌else◌}
+use Rattle.std.specs.Prelude.{ℕ, zero, suc, ◌+◌, Bool, false, List, [], ◌∷◌, drop, slice_index_or}
+use Rattle.std.specs.Prelude.{Result, Ok, if◌then◌else◌}
 use Rattle.std.specs.Str.{bytes_eq}
 use Rattle.line_fields.specs.declared.faults.Fault.{Fault}
 use Rattle.line_fields.specs.declared.faults.Fault.TheVariants as faults
@@ -35,6 +35,15 @@ one name read i records = do
   x ← at_record i
       (want (begins (is_named name) records) faults.BadRecord >>= λ it. read (first records))
   Ok (record { value = x; number = i + 1; left = drop 1 records })
+
+-- so many records with that name, from the i-th on, each read after those before it
+unfoldable pub several : {A : Type 0} → List ℕ → (A → Record → Result A Fault) → ℕ → A → ℕ
+    → List Record → Result (Part A) TextFault
+several name read zero before i records =
+    Ok (record { value = before; number = i; left = records })
+several name read (suc others) before i records = do
+  more ← one name (read before) i records
+  several name read others more.value more.number more.left
 
 -- all records of a kind up to the first of another, from the i-th on, each read after those before
 -- it

@@ -1,6 +1,6 @@
 -- What keeps to the ranges that the fields of its records have.
 use Rattle.std.specs.Prelude.{◌≡◌, ℕ, ◌≤◌, ◌<◌, ◌^◌, ◌==◌, nat_le, true, false, List, [], ◌∷◌}
-use Rattle.std.specs.Prelude.{◌++◌, length, Option, Some, None}
+use Rattle.std.specs.Prelude.{◌++◌, length, Option, Some, None, if◌then◌else◌}
 use Rattle.std.specs.List.{AllByRecursion, list_any}
 use Rattle.std.specs.Option.{is_some}
 use Rattle.line_names.specs.declared.certificates.Passed.{Passed}
@@ -17,7 +17,7 @@ use Rattle.line_tape.specs.declared.limits.TheConstants.{LAST_ROUND}
 use Rattle.line_tape.specs.History.{Process}
 use Rattle.line_claims.specs.declared.numbers.TheConstants.{MOST_NUMBER}
 use Rattle.line_claims.specs.Claims.{Claim}
-use Rattle.line_claims.specs.Versions.{most_in, starts_in}
+use Rattle.line_claims.specs.Versions.{floors_in, most_in, starts_in}
 
 -- bytes, and at most so many
 pub record AreBytes (most : ℕ) (bytes : List ℕ) : Type 0 where
@@ -125,6 +125,17 @@ pub record IsReplayInRange (n : ℕ) (replay : Replay) : Type 0 where
   pub place : replay.place ≤ MOST_NUMBER
   pub body : AreBytes MOST_BODY replay.body
 
+-- what was let go of each of n processes, in a text of that version
+pub record AreFloorsInRange (version n : ℕ) (floors : List (ℕ × ℕ)) : Type 0 where
+  pub counted : length floors ≡ floors_in version n
+  pub numbers : AllByRecursion (λ floor. (floor.0 ≤ MOST_NUMBER) × (floor.1 ≤ MOST_NUMBER)) floors
+
+-- the version as which a claim is read that says this of where processes go on: one of version 4
+-- that says nothing of it is as one of version 2
+abbrev pub version_with : ℕ → List Start → ℕ
+version_with version [] = if version == 4 then 2 else version
+version_with version (start ∷ others) = version
+
 -- a claim in a text of that version, on a history of as many processes as it has lists of marks
 pub record IsClaimInRange (version : ℕ) (claim : Claim) : Type 0 where
   pub few : length claim.marks.damaged ≤ MOST_PROCESSES
@@ -138,7 +149,8 @@ pub record IsClaimInRange (version : ℕ) (claim : Claim) : Type 0 where
   pub choices : AllByRecursion IsChoice claim.line
   pub entries : AllByRecursion (IsEntryInRange (length claim.marks.damaged)) claim.certificate
   pub known : list_any is_some claim.marks.bars ≡ true → nat_le 2 version ≡ true
-  pub counted : length claim.starts ≡ starts_in version (length claim.marks.damaged)
+  pub counted : length claim.starts
+      ≡ starts_in (version_with version claim.starts) (length claim.marks.damaged)
   pub starts : AllByRecursion IsStartInRange claim.starts
-  pub later : (version == 3) ≡ false → claim.replays ≡ []
+  pub later : nat_le 3 (version_with version claim.starts) ≡ false → claim.replays ≡ []
   pub replays : AllByRecursion (IsReplayInRange (length claim.marks.damaged)) claim.replays

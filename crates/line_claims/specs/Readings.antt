@@ -1,32 +1,43 @@
 -- What a check text still spells, the first records of which were taken.
-use Rattle.std.specs.Prelude.{◌≡◌, ◌≤◌, ◌⊎◌, ℕ, List, [], false, length, Option, Some, None}
-use Rattle.std.specs.Prelude.{Result, Ok, Err}
+use Rattle.std.specs.Prelude.{◌≡◌, ◌≤◌, ◌⊎◌, ◌-◌, ℕ, List, [], false, length, nat_le, Option}
+use Rattle.std.specs.Prelude.{Some, None, Result, Ok, Err, if◌then◌else◌}
 use Rattle.line_fields.specs.Fields.{◌>>=◌}
 use Rattle.line_fields.specs.Records.{EndsLine, Record}
-use Rattle.line_claims.specs.declared.claims.ClaimStage.{ClaimStage}
 use Rattle.line_claims.specs.declared.faults.TextFault.{TextFault}
 use Rattle.line_claims.specs.declared.readers.BegunCheck as made
+use Rattle.line_claims.specs.declared.readers.CheckStage.{CheckStage}
+use Rattle.line_claims.specs.declared.readers.CheckStage.TheVariants as stages
 use Rattle.line_claims.specs.Events.{is_event}
-use Rattle.line_claims.specs.Stages.{claim_left, damage_left, tapes_left}
+use Rattle.line_claims.specs.Stages.{claim_left, damage_left, floors_left, tapes_left}
 use Rattle.line_claims.specs.Texts.{Check, check_text_of, check_view, records_in}
 
 -- the check text of n processes that these records end, from the i-th on, so many tapes of which
--- were begun: its claim from that part on, or its tapes and the claim
-abbrev pub stage_left : Option ClaimStage → ℕ → ℕ → ℕ → Check → ℕ → List Record
+-- were begun: what was let go, its tapes and the claim; its tapes and the claim; or its claim from
+-- that part on
+abbrev pub stage_left : CheckStage → ℕ → ℕ → ℕ → Check → ℕ → List Record
     → Result Check TextFault
-stage_left None version n tapes check i records = do
+stage_left stages.Floors version n tapes check i records = do
+  floors ← floors_left (n - length check.floors) check.floors i records
+  front ← tapes_left n 0 check.history floors.number floors.left
+  claim ← damage_left version n check.claim front.number front.left
+  Ok (record { history = front.value; floors = floors.value; claim = claim })
+stage_left stages.Tapes version n tapes check i records = do
   front ← tapes_left n tapes check.history i records
   claim ← damage_left version n check.claim front.number front.left
-  Ok (record { history = front.value; claim = claim })
-stage_left (Some stage) version n tapes check i records = do
+  Ok (record { history = front.value; floors = check.floors; claim = claim })
+stage_left (stages.Claim stage) version n tapes check i records = do
   claim ← claim_left stage version n check.claim i records
-  Ok (record { history = check.history; claim = claim })
+  Ok (record { history = check.history; floors = check.floors; claim = claim })
+
+-- the part of a check text of a version that follows its first record
+abbrev pub first_stage : ℕ → CheckStage
+first_stage version = if nat_le 4 version then stages.Floors else stages.Tapes
 
 -- what was begun, as lists
 pub record Begun : Type 0 where
   pub version : ℕ
   pub tapes : ℕ
-  pub stage : Option ClaimStage
+  pub stage : CheckStage
   pub check : Check
 
 abbrev pub begun_view : made.BegunCheck → Begun
@@ -63,7 +74,7 @@ pub record IsBegun (begun : made.BegunCheck) : Type 0 where
 
 -- a record is no event of the tape that was begun last, while the tapes go on
 abbrev pub IsBeyondTape : made.BegunCheck → Record → Type 0
-IsBeyondTape begun r = begun.stage ≡ None → (begun.tapes ≡ 0) ⊎ (is_event r ≡ false)
+IsBeyondTape begun r = begun.stage ≡ stages.Tapes → (begun.tapes ≡ 0) ⊎ (is_event r ≡ false)
 
 -- what is read, unless there was a fault before
 abbrev pub unless_fault : Option TextFault → Result Check TextFault → Result Check TextFault

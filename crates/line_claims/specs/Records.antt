@@ -1,6 +1,6 @@
 -- How histories and claims are written, record by record.
 use Rattle.std.specs.Prelude.{ℕ, ◌+◌, Bool, if◌then◌else◌, List, [], ◌∷◌, ◌++◌, length, map, filter}
-use Rattle.std.specs.Prelude.{Option, Some, None, codes, decimal}
+use Rattle.std.specs.Prelude.{Option, Some, None, codes, decimal, slice_index_or}
 use Rattle.std.specs.List.{list_any, range_with_len}
 use Rattle.std.specs.Option.{is_some}
 use Rattle.line_names.specs.declared.certificates.Passed.{Passed}
@@ -65,13 +65,29 @@ history_record version n = codes "history" ∷ decimal version ∷ decimal n ∷
 abbrev pub in_version : ℕ → List ℕ → List Record → List Record
 in_version version number rest = (codes "history" ∷ decimal version ∷ number ∷ []) ∷ rest
 
--- a history, in a text of that version
-abbrev pub front_records : ℕ → List Process → List Record
-front_records version history = history_record version (length history) ∷ tapes_records 0 history
+-- floor,P,C,SENDS
+abbrev pub floor_record : ℕ → ℕ × ℕ → Record
+floor_record p floor = codes "floor" ∷ decimal p ∷ decimal floor.0 ∷ decimal floor.1 ∷ []
+
+-- what was let go of processes, the first of which has that number
+abbrev pub floors_records : ℕ → List (ℕ × ℕ) → List Record
+floors_records p [] = []
+floors_records p (floor ∷ others) = floor_record p floor ∷ floors_records (p + 1) others
+
+-- a history, in a text of that version, and what was let go of each process before it
+abbrev pub front_records : ℕ → List (ℕ × ℕ) → List Process → List Record
+front_records version floors history =
+    history_record version (length history) ∷ (floors_records 0 floors ++ tapes_records 0 history)
 
 -- a history alone, in the earliest version that may have so many processes
 abbrev pub history_records : List Process → List Record
-history_records history = front_records (earliest_version (length history)) history
+history_records history = front_records (earliest_version (length history)) [] history
+
+-- what was let go of each of n processes, by the checks that they begin with and their first sends
+-- that were let go, with 0 where these have no number for a process
+abbrev pub floors_at : ℕ → List ℕ → List ℕ → List (ℕ × ℕ)
+floors_at n checks sends =
+    map (λ p. (slice_index_or checks p 0, slice_index_or sends p 0)) (range_with_len 0 n)
 
 -- damage,P,C
 abbrev pub damage_record : ℕ → ℕ → Record
@@ -183,28 +199,44 @@ in_order history marks = record {
   bars = map (bar_at marks) (range_with_len 0 (length history));
 }
 
--- a history, and a claim on it, in a text of that version
-abbrev pub check_records_in : ℕ → List Process → Claim → List Record
-check_records_in version history claim =
-    front_records version history
+-- a history, what was let go before it, and a claim on it, in a text of that version
+abbrev pub check_records_in : ℕ → List (ℕ × ℕ) → List Process → Claim → List Record
+check_records_in version floors history claim =
+    front_records version floors history
     ++ (marks_records claim.marks
     ++ judged_records (length history) claim.failed claim.line claim.certificate claim.starts
     claim.replays)
 
 -- a history, and a claim on it, in the version that its marks ask for
 abbrev pub check_records : List Process → Claim → List Record
-check_records history claim = check_records_in (version_of claim.marks) history claim
+check_records history claim = check_records_in (version_of claim.marks) [] history claim
 
--- a history, and the right answer to a recovery of it that goes back to this line
-abbrev pub whole_answer_records : List Process → MarksView → List Bool → List Choice → List Passed
-    → List Record
-whole_answer_records history marks failed line certificate =
-    check_records_in 3 history
-    (record {
+-- the claim that a line is the latest one, which says nothing of where processes go on
+abbrev pub line_claim : MarksView → List Bool → List Choice → List Passed → Claim
+line_claim marks failed line certificate =
+    record {
+      marks = marks;
+      failed = failed;
+      line = line;
+      certificate = certificate;
+      starts = [];
+      replays = [];
+    }
+
+-- the claim of the right answer to a recovery of a history that goes back to this line
+abbrev pub whole_claim : List Process → MarksView → List Bool → List Choice → List Passed → Claim
+whole_claim history marks failed line certificate =
+    record {
       marks = marks;
       failed = failed;
       line = line;
       certificate = certificate;
       starts = starts_due history line;
       replays = replays_due history line;
-    })
+    }
+
+-- a history, and that answer
+abbrev pub whole_answer_records : List Process → MarksView → List Bool → List Choice → List Passed
+    → List Record
+whole_answer_records history marks failed line certificate =
+    check_records_in 3 [] history (whole_claim history marks failed line certificate)

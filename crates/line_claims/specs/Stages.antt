@@ -12,12 +12,12 @@ use Rattle.line_claims.specs.declared.claims.ClaimStage.{ClaimStage}
 use Rattle.line_claims.specs.declared.claims.ClaimStage.TheVariants as stages
 use Rattle.line_claims.specs.declared.faults.TextError.{TextError}
 use Rattle.line_claims.specs.declared.faults.TextFault.{TextFault}
-use Rattle.line_claims.specs.Claims.{Claim, is_bar, is_none, is_replay, starts_from}
+use Rattle.line_claims.specs.Claims.{Claim, answer_version, is_bar, is_none, is_replay}
 use Rattle.line_claims.specs.Entries.{bar_of, damage_of, end_of, entry_of, failed_of, line_of}
-use Rattle.line_claims.specs.Entries.{replay_of}
+use Rattle.line_claims.specs.Entries.{replay_of, start_of}
 use Rattle.line_claims.specs.Events.{is_event}
-use Rattle.line_claims.specs.Histories.{event_at, tapes_from}
-use Rattle.line_claims.specs.Parts.{Part, is_named, many, one}
+use Rattle.line_claims.specs.Histories.{event_at, one_floor_more, tapes_from}
+use Rattle.line_claims.specs.Parts.{Part, is_named, many, one, several}
 use Rattle.line_claims.specs.Reads.{FailsText, at_record}
 use Rattle.line_claims.specs.Versions.{starts_in}
 
@@ -58,14 +58,20 @@ starts_to_come count (start ∷ others) = count - length (start ∷ others)
 -- that they end with where the processes go on of which that was not taken
 abbrev pub starts_left : ℕ → ℕ → Claim → ℕ → List Record → Result Claim TextFault
 starts_left version n claim i records = do
-  starts ← starts_from n (starts_to_come (starts_in version n) claim.starts) claim.starts i records
+  starts ← several (codes "start") (start_of n)
+      (starts_to_come (starts_in version n) claim.starts) claim.starts i records
   replays_left version n (record claim { starts = starts.value }) starts.number starts.left
+
+-- that they end with what follows the entries
+abbrev pub answer_left : ℕ → ℕ → Claim → ℕ → List Record → Result Claim TextFault
+answer_left version n claim i records =
+    starts_left (answer_version version records) n claim i records
 
 -- that they end with more entries
 abbrev pub entries_left : ℕ → ℕ → Claim → ℕ → List Record → Result Claim TextFault
 entries_left version n claim i records = do
   entries ← many (is_named (codes "pass")) (entry_of n) claim.certificate i records
-  starts_left version n (record claim { certificate = entries.value }) entries.number entries.left
+  answer_left version n (record claim { certificate = entries.value }) entries.number entries.left
 
 -- that they end with a line
 abbrev pub line_left : ℕ → ℕ → Claim → ℕ → List Record → Result Claim TextFault
@@ -100,6 +106,22 @@ claim_left stages.Entries version n claim i records = entries_left version n cla
 claim_left stages.Starts version n claim i records = starts_left version n claim i records
 claim_left stages.Replays version n claim i records = replays_left version n claim i records
 claim_left stages.Nothing version n claim i records = nothing_left claim i records
+
+-- what was let go of so many more processes, after those of which that was taken
+abbrev pub floors_left : ℕ → List (ℕ × ℕ) → ℕ → List Record → Result (Part (List (ℕ × ℕ))) TextFault
+floors_left others floors i records =
+    several (codes "floor") one_floor_more others floors i records
+
+-- the number of the record after a part, and that record with those after it
+pub record PartEnd : Type 0 where
+  pub number : ℕ
+  pub left : List Record
+
+-- where a part that was read ends
+abbrev pub part_end : {A : Type 0} → Result (Part A) TextFault → Result PartEnd TextFault
+part_end read = do
+  part ← read
+  Ok (record { number = part.number; left = part.left })
 
 -- the tape that was begun last, with the events that these records go on with
 abbrev pub open_tape : ℕ → List Process → ℕ → List Record → Result (Part (List Process)) TextFault

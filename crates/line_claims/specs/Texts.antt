@@ -8,7 +8,7 @@ use Rattle.line_tape.specs.History.{Process}
 use Rattle.line_claims.specs.declared.faults.TextFault.{TextFault}
 use Rattle.line_claims.specs.declared.texts.CheckText as made
 use Rattle.line_claims.specs.Claims.{Claim, claim_from, is_none, claim_view}
-use Rattle.line_claims.specs.Histories.{front_of, head_in}
+use Rattle.line_claims.specs.Histories.{floors_of, front_of, head_in}
 use Rattle.line_claims.specs.Reads.{fault_of_record, at_record}
 
 -- the records of a text, where it has no byte that no text has
@@ -21,7 +21,8 @@ records_in text =
 unfoldable pub history_of : List Record → Result (List Process) TextFault
 history_of records = do
   head ← head_in records
-  front ← front_of head.1 records
+  floors ← floors_of head.0 head.1 records
+  front ← front_of head.1 floors.number floors.left
   ended ← at_record front.number (want (is_none front.left) faults.BadRecord)
   Ok front.value
 
@@ -29,22 +30,29 @@ history_of records = do
 unfoldable pub certificate_of : ℕ → ℕ → List Record → Result Claim TextFault
 certificate_of version n records = claim_from version n 1 records
 
--- a history and a claim on it
+-- a history, what was let go of each process before it, and a claim on it
 pub record Check : Type 0 where
   pub history : List Process
+  pub floors : List (ℕ × ℕ)
   pub claim : Claim
 
--- both as lists
+-- all as lists
 abbrev pub check_view : made.CheckText → Check
-check_view text = record { history = text.history.processes; claim = claim_view text.claim }
+check_view text =
+    record {
+      history = text.history.processes;
+      floors = text.floors.items;
+      claim = claim_view text.claim;
+    }
 
 -- a history and a claim on it: a front with a claim after it
 unfoldable pub check_text_of : List Record → Result Check TextFault
 check_text_of records = do
   head ← head_in records
-  front ← front_of head.1 records
+  floors ← floors_of head.0 head.1 records
+  front ← front_of head.1 floors.number floors.left
   claim ← claim_from head.0 head.1 front.number front.left
-  Ok (record { history = front.value; claim = claim })
+  Ok (record { history = front.value; floors = floors.value; claim = claim })
 
 -- the history that a text spells
 abbrev pub history_of_text : List ℕ → Result (List Process) TextFault

@@ -18,7 +18,12 @@ most_in version = if version == 1 then MOST_IN_FIRST_VERSION else MOST_PROCESSES
 
 -- how many processes a claim of a version among n says of where they go on: all, from version 3 on
 abbrev pub starts_in : ℕ → ℕ → ℕ
-starts_in version n = if version == 3 then n else 0
+starts_in version n = if nat_le 3 version then n else 0
+
+-- of how many processes a history of a version among n says what was let go: of all, from version 4
+-- on
+abbrev pub floors_in : ℕ → ℕ → ℕ
+floors_in version n = if nat_le 4 version then n else 0
 
 -- the earliest version whose texts may have so many processes
 unfoldable pub earliest_version : ℕ → ℕ

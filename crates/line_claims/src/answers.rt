@@ -1,4 +1,4 @@
-//! The right answer to a recovery, written record by record.
+//! The right answer to a recovery, written record by record, and claims on what is left.
 
 ghost use Rattle.std.specs.Prelude.{◌≡◌, ◌<◌, ◌++◌, length, map};
 ghost use Rattle.line_check.specs.Answers.{replay_of_ref, replays_due, start_due, starts_due};
@@ -7,12 +7,14 @@ ghost use Rattle.line_fields.specs.Outlets.{field_text};
 ghost use Rattle.line_fields.specs.Texts.{record_text, records_text};
 ghost use Rattle.line_tape.specs.Front.{HasChoice};
 ghost use Rattle.line_tape.specs.Line.{IsLine};
+ghost use Rattle.line_claims.specs.declared.versions.TheConstants.{LAST_CHECK_VERSION};
 ghost use Rattle.line_claims.specs.Records as spec;
 
+use crate::floors::FloorRef;
 use crate::judgements::{put_failed, put_line, put_passes};
 use crate::marks::put_marks;
-use crate::versions::LAST_CHECK_VERSION;
-use crate::writers::put_history;
+use crate::versions::ANSWER_VERSION;
+use crate::writers::{put_history, put_history_from};
 use line_check::{ReplayCursor, ReplayRef, next_replay};
 use line_devices::{DeviceFault, Sink};
 use line_fields::{Field, RecordWriter, put_ending, put_fields, put_numbers};
@@ -153,7 +155,69 @@ pub fn put_answer<K: Sink>(
         (spec.in_order history.now.processes claim.now.marks.now) claim.now.failed.now
         claim.now.line.now claim.now.certificate.now)) }
 {
-    put_history(sink, writer, LAST_CHECK_VERSION, history)?;
+    put_history(sink, writer, ANSWER_VERSION, history)?;
+    put_marks(sink, writer, history, claim.marks)?;
+    put_failed(sink, writer, history.n(), claim.failed)?;
+    put_line(sink, writer, claim.line)?;
+    put_passes(sink, writer, claim.certificate)?;
+    put_starts(sink, writer, history, claim.line)?;
+    put_replays(sink, writer, history, claim.line)?;
+    put_numbers(sink, writer, b"end", &[])
+}
+
+/// Writes a check text of version 4 after what a writer holds: what is left of a history, what was
+/// let go before it, and the claim on what is left, in its numbers.
+///
+/// It fails as `put_check_text` does, and takes no memory either.
+pub fn put_check_text_from<K: Sink>(
+    sink: &mut K,
+    writer: &mut RecordWriter,
+    floor: &FloorRef<'_>,
+    history: &History,
+    claim: &ClaimRef<'_>,
+) -> Result<(), DeviceFault>
+    ensures { Outputs result (K.taken sink.old) (K.taken sink.new) (K.faults sink.old)
+        (K.faults sink.new) writer.new
+        (writer.old
+        ++ records_text
+        (spec.check_records_in LAST_CHECK_VERSION
+        (spec.floors_at (length history.now.processes) floor.now.checks.now floor.now.sends.now)
+        history.now.processes
+        (spec.line_claim (spec.in_order history.now.processes claim.now.marks.now)
+        claim.now.failed.now claim.now.line.now claim.now.certificate.now))) }
+{
+    put_history_from(sink, writer, floor, history)?;
+    put_marks(sink, writer, history, claim.marks)?;
+    put_failed(sink, writer, history.n(), claim.failed)?;
+    put_line(sink, writer, claim.line)?;
+    put_passes(sink, writer, claim.certificate)?;
+    put_numbers(sink, writer, b"end", &[])
+}
+
+/// Writes a check text of version 4 as `put_check_text_from` does, with what a restart at its line
+/// asks for, so that where the claim is right, the whole answer is.
+///
+/// It fails as `put_answer` does, and takes no memory either.
+pub fn put_answer_from<K: Sink>(
+    sink: &mut K,
+    writer: &mut RecordWriter,
+    floor: &FloorRef<'_>,
+    history: &History,
+    claim: &ClaimRef<'_>,
+) -> Result<(), DeviceFault>
+    requires { IsLine history.now.processes claim.now.line.now }
+    ensures { Outputs result (K.taken sink.old) (K.taken sink.new) (K.faults sink.old)
+        (K.faults sink.new) writer.new
+        (writer.old
+        ++ records_text
+        (spec.check_records_in LAST_CHECK_VERSION
+        (spec.floors_at (length history.now.processes) floor.now.checks.now floor.now.sends.now)
+        history.now.processes
+        (spec.whole_claim history.now.processes
+        (spec.in_order history.now.processes claim.now.marks.now) claim.now.failed.now
+        claim.now.line.now claim.now.certificate.now))) }
+{
+    put_history_from(sink, writer, floor, history)?;
     put_marks(sink, writer, history, claim.marks)?;
     put_failed(sink, writer, history.n(), claim.failed)?;
     put_line(sink, writer, claim.line)?;

@@ -1,7 +1,8 @@
 //! Claims, taken record by record.
 
-ghost use Rattle.std.specs.Prelude.{◌≡◌, ◌≤◌, ◌+◌, [], ℕ, length, IfOk};
+ghost use Rattle.std.specs.Prelude.{◌≡◌, ◌≤◌, ◌+◌, [], ◌∷◌, ℕ, List, length, IfOk};
 ghost use Rattle.line_names.specs.declared.limits.TheConstants.{MOST_PROCESSES};
+ghost use Rattle.line_fields.specs.Records.{Record};
 ghost use Rattle.line_claims.specs.Claims as claims;
 ghost use Rattle.line_claims.specs.Reads.{Yields};
 ghost use Rattle.line_claims.specs.Stages.{Goes};
@@ -20,7 +21,7 @@ use std::alloc::{AllocError, Global};
 
 /// What is claimed of a history: that this is the latest line, where these checks are damaged,
 /// processes are barred at these checks and these failed, and that this certificate shows it. From
-/// version 3 on it has the whole answer to a recovery.
+/// version 3 on it may have the whole answer to a recovery.
 #[derive(Drop)]
 pub struct Claim {
     /// The checks that are damaged, and those at which processes are barred.
@@ -31,7 +32,7 @@ pub struct Claim {
     pub line: Line,
     /// The entries of its certificate, in the order in which they are to be tested.
     pub certificate: Certificate,
-    /// Where each process goes on; of none before version 3.
+    /// Where each process goes on; of none before version 3, and in version 4 of all or none.
     pub starts: Vec<Start>,
     /// The messages that are sent again; none before version 3.
     pub replays: Vec<Replay>,
@@ -93,7 +94,15 @@ fn take_end(claim: &mut Claim, number: u64, row: &FieldRow<'_>) -> Result<ClaimS
 fn is_replay(version: u32, row: &FieldRow<'_>) -> bool
     ensures { result ≡ claims.is_replay version row.now }
 {
-    version == 3 && is_named(row, b"replay")
+    version >= 3 && is_named(row, b"replay")
+}
+
+// Whether a record after the entries of a claim of version 4 is not where the first process goes
+// on: then the claim says of none where it goes on.
+fn is_line_alone(version: u32, row: &FieldRow<'_>) -> bool
+    ensures { (rest : List Record) → result ≡ claims.is_line_alone version (row.now ∷ rest) }
+{
+    version == 4 && !is_named(row, b"start")
 }
 
 // Takes a message that is sent again, or the end, which follows these.
@@ -150,6 +159,27 @@ fn take_start(
     }
 }
 
+// Takes what follows the entries of a claim: where the first process goes on, or the end.
+fn take_answer(
+    version: u32,
+    n: u32,
+    claim: &mut Claim,
+    number: u64,
+    row: &FieldRow<'_>,
+    bytes: &mut Vec<u8>,
+) -> Result<ClaimStage, TextError>
+    requires { n ≤ MOST_PROCESSES }
+    ensures exact { Goes result (spec.answer_left version n (claims.claim_view claim.old) number)
+        (λ stage. spec.claim_left stage version n (claims.claim_view claim.new)
+        (number + 1)) row.now }
+    ensures same { claim.new.marks ≡ claim.old.marks }
+{
+    if is_line_alone(version, row) {
+        return take_end(claim, number, row);
+    }
+    take_start(version, n, claim, number, row, bytes)
+}
+
 // Takes an entry of the certificate of a claim, or what follows the entries.
 fn take_entry(
     version: u32,
@@ -166,7 +196,7 @@ fn take_entry(
     ensures same { claim.new.marks ≡ claim.old.marks }
 {
     if !is_named(row, b"pass") {
-        return take_start(version, n, claim, number, row, bytes);
+        return take_answer(version, n, claim, number, row, bytes);
     }
     match entry_of(&mut claim.certificate, n, row) {
         Ok(()) => Ok(ClaimStage::Entries),

@@ -6,7 +6,7 @@ ghost use Rattle.line_claims.specs.Entries as spec;
 ghost use Rattle.line_claims.specs.Numbers.{choices};
 ghost use Rattle.line_claims.specs.Reads.{Steps};
 
-use crate::numbers::{choice, incarnation, plain, process, state_or_none, want};
+use crate::numbers::{choice, incarnation, plain, plain_at, process, state_or_none, want};
 use crate::versions::most_in;
 use line_check::{Replay, Start};
 use line_fields::{Fault, FieldRow, ReadError, hex_into};
@@ -166,11 +166,11 @@ pub(crate) fn replay_of(
     ensures { Steps result (spec.replay_of n replays.old.items row.now) replays.new.items }
 {
     want(row.len() == 7, Fault::BadRecord)?;
-    let from = plain(row, 1)?;
+    let from = plain_at(row, 1)?;
     let inc = incarnation(row, 2)?;
-    let number = plain(row, 3)?;
-    let to = plain(row, 4)?;
-    let place = plain(row, 5)?;
+    let number = plain_at(row, 3)?;
+    let to = plain_at(row, 4)?;
+    let place = plain_at(row, 5)?;
     hex_into(bytes, row.field(6))?;
     let from = process(n, from)?;
     let to = process(n, to)?;

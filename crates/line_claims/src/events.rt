@@ -16,6 +16,7 @@ pub(crate) enum Kind {
 }
 
 /// The kind of event that a record spells, by its first field.
+#[inline(always)]
 pub(crate) fn kind_of(row: &FieldRow<'_>) -> Option<Kind>
     ensures { MatchOption result (spec.is_event row.now ≡ false)
         (λ kind. (spec.is_event row.now ≡ true) × (field row.now 0 ≡ spec.kind_text kind)) }

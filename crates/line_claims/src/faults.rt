@@ -57,6 +57,9 @@ pub fn name_of(code: u32) -> &'static str
         45 => "ReplayRepeated",
         46 => "ReplayMissing",
         47 => "StaleReport",
+        48 => "NoSuchRound",
+        49 => "RoundLost",
+        50 => "NoMoreNumbers",
         _ => "",
     }
 }

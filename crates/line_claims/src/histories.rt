@@ -1,6 +1,6 @@
 //! Histories, taken record by record.
 
-ghost use Rattle.std.specs.Prelude.{◌≡◌, ◌≤◌, ◌<◌, ◌+◌, ◌^◌, ◌++◌, ◌⊎◌, false, [], ◌∷◌};
+ghost use Rattle.std.specs.Prelude.{◌≡◌, ◌≤◌, ◌<◌, ◌+◌, ◌^◌, ◌++◌, ◌⊎◌, false, [], ◌∷◌, ℕ, suc};
 ghost use Rattle.std.specs.Prelude.{List, Ok, Err, codes, length, replicate, IfErr, IfOk};
 ghost use Rattle.std.specs.Prelude.{MatchBool, OnOk, nat_lt};
 ghost use Rattle.line_names.specs.declared.limits.TheConstants.{MOST_PROCESSES};
@@ -12,7 +12,7 @@ ghost use Rattle.line_tape.specs.Views.{room_at};
 ghost use Rattle.line_claims.specs.Events.{is_event, kind_text};
 ghost use Rattle.line_claims.specs.Histories as spec;
 ghost use Rattle.line_claims.specs.Reads.{FailsText, Steps, Yields, error_at};
-ghost use Rattle.line_claims.specs.Stages.{Goes, tapes_left, with_tape};
+ghost use Rattle.line_claims.specs.Stages.{Goes, floors_left, tapes_left, with_tape};
 
 use crate::events::{Kind, kind_of};
 use crate::faults::{TextError, error_at, fault_at};
@@ -54,6 +54,41 @@ pub(crate) fn head_at(row: &FieldRow<'_>) -> Result<(u32, u32), TextError>
     }
 }
 
+// Adds what was let go of the next process, of `floor,P,C,SENDS`.
+#[tactic(auto, unfolding(crate::specs::Histories::one_floor_more, line_fields::specs::Shapes::three))]
+fn add_floor(floors: &mut Vec<(u32, u32)>, row: &FieldRow<'_>) -> Result<(), ReadError>
+    ensures exact { Steps result (spec.one_floor_more floors.old.items row.now) floors.new.items }
+    ensures more { OnOk result (length floors.new.items ≡ length floors.old.items + 1) }
+{
+    want(row.len() == 4, Fault::BadRecord)?;
+    let p = plain(row, 1)?;
+    let check = plain(row, 2)?;
+    let sends = plain(row, 3)?;
+    want(p as usize == floors.len(), Fault::BadRecord)?;
+    floors.push((check, sends))?;
+    Ok(())
+}
+
+/// Takes what was let go of the next process, where that of one more is to come.
+pub(crate) fn take_floor(
+    floors: &mut Vec<(u32, u32)>,
+    number: u64,
+    row: &FieldRow<'_>,
+) -> Result<(), TextError>
+    ensures exact { (others : ℕ)
+        → Goes result (floors_left (suc others) floors.old.items number)
+        (λ _. floors_left others floors.new.items (number + 1)) row.now }
+    ensures more { OnOk result (length floors.new.items ≡ length floors.old.items + 1) }
+{
+    if !is_named(row, b"floor") {
+        return Err(fault_at(number, Fault::BadRecord));
+    }
+    match add_floor(floors, row) {
+        Ok(()) => Ok(()),
+        Err(error) => Err(error_at(number, error)),
+    }
+}
+
 // Begins the tape of a process, by `tape,P,INC`.
 #[tactic(auto, unfolding(crate::specs::Histories::tape_of, line_fields::specs::Shapes::two))]
 fn tape_of(history: &mut History, at: ProcId, row: &FieldRow<'_>) -> Result<(), Fault>
@@ -90,6 +125,7 @@ fn make_room(history: &mut History, at: ProcId) -> Result<(), ReadError>
 
 // Adds the event of `send,TO,INC,HEX` to the tape of a process. The bytes of the message take the
 // place of those of a list.
+#[inline(always)]
 #[tactic(auto, unfolding(crate::specs::Histories::event_at, crate::specs::Events::send_event_of, line_fields::specs::Shapes::three))]
 fn send_at(
     history: &mut History,
@@ -115,6 +151,7 @@ fn send_at(
 }
 
 // Adds the event of `recv,FROM,INC,NUMBER` to the tape of a process.
+#[inline(always)]
 #[tactic(auto, unfolding(crate::specs::Histories::event_at, crate::specs::Events::recv_event_of, line_fields::specs::Shapes::three))]
 fn recv_at(history: &mut History, at: ProcId, row: &FieldRow<'_>) -> Result<(), ReadError>
     requires there { at < length history.old.processes }
@@ -160,6 +197,7 @@ fn check_at(
 }
 
 // Adds the event of `mark,FROM,ROUND` to the tape of a process.
+#[inline(always)]
 #[tactic(auto, unfolding(crate::specs::Histories::event_at, crate::specs::Events::mark_event_of, line_fields::specs::Shapes::two))]
 fn mark_at(history: &mut History, at: ProcId, row: &FieldRow<'_>) -> Result<(), ReadError>
     requires there { at < length history.old.processes }
@@ -178,6 +216,7 @@ fn mark_at(history: &mut History, at: ProcId, row: &FieldRow<'_>) -> Result<(), 
 }
 
 // Adds the event of a record to the tape of a process, by its parts.
+#[inline(always)]
 fn event_at(
     alloc: Global,
     history: &mut History,
@@ -251,6 +290,45 @@ pub(crate) fn take_open_tape<'a>(
         if !records.next_row(row)? {
             return Ok(false);
         }
+    }
+}
+
+/// Takes an event of the tape that was begun last, if one was, and answers false where the record
+/// is none.
+pub(crate) fn take_event(
+    alloc: Global,
+    history: &mut History,
+    tapes: u32,
+    number: u64,
+    row: &FieldRow<'_>,
+    bytes: &mut Vec<u8>,
+) -> Result<bool, TextError>
+    requires there { tapes ≤ length history.old.processes }
+    ensures exact { IfOk result (λ taken. MatchBool taken
+        ((rest : List Record)
+        → tapes_left (length history.old.processes) tapes history.old.processes number
+        (row.now ∷ rest)
+        ≡ tapes_left (length history.old.processes) tapes history.new.processes (number + 1) rest)
+        ((history.new.processes ≡ history.old.processes)
+        × ((tapes ≡ 0) ⊎ (is_event row.now ≡ false)))) }
+    ensures err { IfErr result (λ error. (rest : List Record)
+        → FailsText error
+        (tapes_left (length history.old.processes) tapes history.old.processes number
+        (row.now ∷ rest))) }
+    ensures same { length history.new.processes ≡ length history.old.processes }
+{
+    if tapes == 0 {
+        return Ok(false);
+    }
+    let Ok(at) = ProcId::try_new(tapes - 1, history.n()) else {
+        unreachable!()
+    };
+    let Some(kind) = kind_of(row) else {
+        return Ok(false);
+    };
+    match event_at(alloc, history, at, kind, row, bytes) {
+        Ok(()) => Ok(true),
+        Err(error) => Err(error_at(number, error)),
     }
 }
 

@@ -21,12 +21,21 @@ pub fn want(holds: bool, fault: Fault) -> Result<(), Fault>
     if holds { Ok(()) } else { Err(fault) }
 }
 
-/// The number in a field: from 0 to 4,294,967,295.
-pub fn plain(row: &FieldRow<'_>, place: usize) -> Result<u32, Fault>
+/// The number in a field, as `plain` has it, for a record that is frequent: it is put into the code
+/// of its caller.
+#[inline(always)]
+pub(crate) fn plain_at(row: &FieldRow<'_>, place: usize) -> Result<u32, Fault>
     ensures { result ≡ spec.plain (records.field row.now place) }
 {
     let value = number(row.field(place), 0, u64::from(MOST_NUMBER))?;
     Ok(value as u32)
+}
+
+/// The number in a field: from 0 to 4,294,967,295.
+pub fn plain(row: &FieldRow<'_>, place: usize) -> Result<u32, Fault>
+    ensures { result ≡ spec.plain (records.field row.now place) }
+{
+    plain_at(row, place)
 }
 
 /// The incarnation in a field.
@@ -37,8 +46,8 @@ pub(crate) fn incarnation(row: &FieldRow<'_>, place: usize) -> Result<u16, Fault
     Ok(value as u16)
 }
 
-/// The round in a field.
-pub(crate) fn round(row: &FieldRow<'_>, place: usize) -> Result<u32, Fault>
+/// The round in a field: from 1 to 65,535.
+pub fn round(row: &FieldRow<'_>, place: usize) -> Result<u32, Fault>
     ensures { result ≡ spec.round (records.field row.now place) }
 {
     let value = number(row.field(place), 1, u64::from(LAST_ROUND))?;

@@ -2,9 +2,10 @@
 
 ghost use Rattle.std.specs.Prelude.{◌≡◌, ◌≤◌, ◌<◌, ◌+◌, ◌^◌, ◌++◌, ◌∷◌, ◌≢◌, ℕ, List};
 ghost use Rattle.std.specs.Prelude.{length, IfErr, IfOk, IfSome, IsTrue, MatchBool, Ok, OnOk, []};
-ghost use Rattle.std.specs.Prelude.{None, Some, true};
+ghost use Rattle.std.specs.Prelude.{None, Some, false, true, ◌⊎◌};
 ghost use Rattle.line_fields.specs.Bytes.{is_input_text};
 ghost use Rattle.line_fields.specs.Records.{Record, records_of_text};
+ghost use Rattle.line_claims.specs.Events.{is_event};
 ghost use Rattle.line_claims.specs.Readings.{IsBegun};
 ghost use Rattle.line_claims.specs.Readings as spec;
 ghost use Rattle.line_claims.specs.Reads.{FailsText, Reads, Yields};
@@ -12,12 +13,26 @@ ghost use Rattle.line_claims.specs.Stages.{Goes};
 ghost use Rattle.line_claims.specs.Texts.{check_of_text, check_view};
 
 use crate::claims::{ClaimStage, begin_claim, close_claim, take_of_claim};
-use crate::faults::{TextError, TextFault, told};
-use crate::histories::{begin_history, close_tapes, head_at, take_next_tape, take_open_tape};
+use crate::faults::{TextError, TextFault, fault_at, told};
+use crate::histories::{
+    begin_history, close_tapes, head_at, take_floor, take_next_tape, take_open_tape,
+};
+use crate::replays::take_replays;
 use crate::texts::CheckText;
 use line_fields::{Fault, FieldRow, RecordReader, is_plain};
 use std::alloc::{AllocError, Global};
 use std::marker::Model;
+
+// Which part of a check text its next record may be of, if not of one that may follow that part.
+#[derive(Clone, Copy)]
+enum CheckStage {
+    // What was let go of each process.
+    Floors,
+    // The tapes, or after them the claim.
+    Tapes,
+    // That part of the claim.
+    Claim(ClaimStage),
+}
 
 // A check text, the first records of which were taken.
 #[derive(Drop)]
@@ -25,9 +40,20 @@ struct BegunCheck {
     version: u32,
     // How many of its tapes were begun.
     tapes: u32,
-    // Which part of the claim the next record may be of; none while the tapes go on.
-    stage: Option<ClaimStage>,
+    // Which part the next record may be of.
+    stage: CheckStage,
     text: CheckText,
+}
+
+// The part of a check text of that version that follows its first record.
+fn first_stage(version: u32) -> CheckStage
+    ensures { result ≡ spec.first_stage version }
+{
+    if version >= 4 {
+        CheckStage::Floors
+    } else {
+        CheckStage::Tapes
+    }
 }
 
 // Begins a check text with its first record.
@@ -50,8 +76,12 @@ fn begin_check(
     *begun = Some(BegunCheck {
         version,
         tapes: 0,
-        stage: None,
-        text: CheckText { history, claim },
+        stage: first_stage(version),
+        text: CheckText {
+            history,
+            floors: Vec::new(alloc),
+            claim,
+        },
     });
     Ok(())
 }
@@ -67,7 +97,7 @@ fn take_in_claim(
 ) -> Result<(), TextError>
     requires { IsBegun begun.old }
     ensures exact { Goes result
-        (spec.stage_left (Some stage) begun.old.version
+        (spec.stage_left (CheckStage.Claim stage) begun.old.version
         (length begun.old.text.history.processes) begun.old.tapes (check_view begun.old.text)
         number)
         (λ _. spec.begun_left begun.new (number + 1)) row.now }
@@ -76,7 +106,51 @@ fn take_in_claim(
     let n = begun.text.history.n();
     let claim = &mut begun.text.claim;
     let next = take_of_claim(begun.version, n, stage, claim, number, row, bytes)?;
-    begun.stage = Some(next);
+    begun.stage = CheckStage::Claim(next);
+    Ok(())
+}
+
+// Takes a record of a check text whose tapes go on that is no event.
+fn take_in_tapes(
+    begun: &mut BegunCheck,
+    number: u64,
+    row: &FieldRow<'_>,
+    bytes: &mut Vec<u8>,
+) -> Result<(), TextError>
+    requires kept { IsBegun begun.old }
+    requires stage { begun.old.stage ≡ CheckStage.Tapes }
+    requires other { (begun.old.tapes ≡ 0) ⊎ (is_event row.now ≡ false) }
+    ensures exact { Goes result (spec.begun_left begun.old number)
+        (λ _. spec.begun_left begun.new (number + 1)) row.now }
+    ensures kept { IsBegun begun.new }
+{
+    if take_next_tape(&mut begun.text.history, &mut begun.tapes, number, row)? {
+        return Ok(());
+    }
+    take_in_claim(begun, ClaimStage::Damage, number, row, bytes)
+}
+
+// Takes what was let go of the next process of a check text, or what follows once that was taken
+// of all.
+fn take_in_floors(
+    begun: &mut BegunCheck,
+    number: u64,
+    row: &FieldRow<'_>,
+    bytes: &mut Vec<u8>,
+) -> Result<(), TextError>
+    requires kept { IsBegun begun.old }
+    requires stage { begun.old.stage ≡ CheckStage.Floors }
+    ensures exact { Goes result (spec.begun_left begun.old number)
+        (λ _. spec.begun_left begun.new (number + 1)) row.now }
+    ensures kept { IsBegun begun.new }
+{
+    let n = begun.text.history.n();
+    if begun.text.floors.len() >= n as usize {
+        begun.stage = CheckStage::Tapes;
+        begun.tapes = 0;
+        return take_in_tapes(begun, number, row, bytes);
+    }
+    take_floor(&mut begun.text.floors, number, row)?;
     Ok(())
 }
 
@@ -100,18 +174,17 @@ fn take_row(
     let Some(begun) = begun else {
         return begin_check(alloc, begun, row);
     };
-    if let Some(stage) = begun.stage {
-        return take_in_claim(begun, stage, number, row, bytes);
+    match begun.stage {
+        CheckStage::Claim(stage) => take_in_claim(begun, stage, number, row, bytes),
+        CheckStage::Tapes => take_in_tapes(begun, number, row, bytes),
+        CheckStage::Floors => take_in_floors(begun, number, row, bytes),
     }
-    if take_next_tape(&mut begun.text.history, &mut begun.tapes, number, row)? {
-        return Ok(());
-    }
-    take_in_claim(begun, ClaimStage::Damage, number, row, bytes)
 }
 
-// Takes the events of the tape that was begun last, from the record in the row on, while the tapes
-// of a check text go on, and says whether the row then has a record that is none.
-fn take_events_of<'a>(
+// Takes the events of the tape that was begun last, while the tapes of a check text go on, or the
+// messages that are sent again, from the record in the row on, and says whether the row then has a
+// record that is none.
+fn take_many_of<'a>(
     alloc: Global,
     records: &mut RecordReader<'a>,
     begun: &mut Option<BegunCheck>,
@@ -142,11 +215,20 @@ fn take_events_of<'a>(
     let Some(begun) = begun else {
         return Ok(true);
     };
-    if begun.stage.is_some() {
-        return Ok(true);
+    match begun.stage {
+        CheckStage::Tapes => {
+            let history = &mut begun.text.history;
+            take_open_tape(alloc, records, history, begun.tapes, number, row, bytes)
+        }
+        CheckStage::Claim(ClaimStage::Replays) => {
+            if begun.version < 3 {
+                return Ok(true);
+            }
+            let n = begun.text.history.n();
+            take_replays(n, &mut begun.text.claim, records, number, row, bytes)
+        }
+        _ => Ok(true),
     }
-    let history = &mut begun.text.history;
-    take_open_tape(alloc, records, history, begun.tapes, number, row, bytes)
 }
 
 // Takes the records of a piece after those that were taken.
@@ -173,7 +255,7 @@ fn take_records(
     let mut records = RecordReader::open(alloc, piece);
     let mut row = FieldRow::new(alloc);
     'records: while records.next_row(&mut row)? {
-        if !take_events_of(alloc, &mut records, begun, number, &mut row, bytes)? {
+        if !take_many_of(alloc, &mut records, begun, number, &mut row, bytes)? {
             return Ok(());
         }
         take_row(alloc, begun, *number, &row, bytes)?;
@@ -188,11 +270,12 @@ fn close_check(begun: &BegunCheck, number: u64) -> Result<(), TextError>
     ensures { Yields (λ _. check_view begun.now.text) result (spec.begun_left begun.now number []) }
 {
     match begun.stage {
-        Some(stage) => close_claim(stage, number),
-        None => {
+        CheckStage::Claim(stage) => close_claim(stage, number),
+        CheckStage::Tapes => {
             close_tapes(&begun.text.history, begun.tapes, number)?;
             close_claim(ClaimStage::Damage, number)
         }
+        CheckStage::Floors => Err(fault_at(number, Fault::BadRecord)),
     }
 }
 

@@ -1,17 +1,21 @@
 //! Texts: a history, a claim, or both.
 
-ghost use Rattle.std.specs.Prelude.{◌≡◌, ◌≤◌, ◌<◌, ◌+◌, ◌^◌, ◌⊎◌, length, IfErr, IfOk};
+ghost use Rattle.std.specs.Prelude.{◌≡◌, ◌≤◌, ◌<◌, ◌+◌, ◌^◌, ◌⊎◌, [], length, IfErr, IfOk};
 ghost use Rattle.line_names.specs.declared.limits.TheConstants.{MOST_PROCESSES};
 ghost use Rattle.line_claims.specs.Claims as claims;
 ghost use Rattle.line_claims.specs.Reads.{IsOfText, Reads, Yields, no_memory};
-ghost use Rattle.line_claims.specs.Stages.{claim_left, tapes_left, whole_front};
+ghost use Rattle.line_claims.specs.Stages.{claim_left, floors_left, part_end, tapes_left};
+ghost use Rattle.line_claims.specs.Stages.{whole_front};
 ghost use Rattle.line_claims.specs.Texts as spec;
 ghost use Rattle.line_claims.specs.Versions.{IsCheckVersion};
 
 use crate::claims::{Claim, ClaimStage, begin_claim, close_claim, take_of_claim};
 use crate::faults::{TextError, TextFault, fault_at, told};
-use crate::histories::{begin_history, close_tapes, head_at, take_next_tape, take_open_tape};
+use crate::histories::{
+    begin_history, close_tapes, head_at, take_floor, take_next_tape, take_open_tape,
+};
 use crate::readers::CheckReader;
+use crate::versions::floors_in;
 use line_fields::{Fault, FieldRow, RecordReader, is_plain};
 use line_names::MOST_PROCESSES;
 use line_tape::History;
@@ -22,12 +26,15 @@ use std::alloc::Global;
 pub struct CheckText {
     /// The history.
     pub history: History,
+    /// What was let go of each process before the history: the check that it begins with, 0 for the
+    /// initial state, and how many of its first sends. It is empty before version 4.
+    pub floors: Vec<(u32, u32)>,
     /// What is claimed of it.
     pub claim: Claim,
 }
 
-// The records of a text.
-fn open(alloc: Global, text: &[u8]) -> Result<RecordReader<'_>, TextError>
+/// The records of a text.
+pub(crate) fn open(alloc: Global, text: &[u8]) -> Result<RecordReader<'_>, TextError>
     ensures records { Yields (λ records. records) result (spec.records_in text.entry.now) }
     ensures few { IfOk result (λ records. length records + 2 < 2 ^ 64) }
 {
@@ -37,21 +44,46 @@ fn open(alloc: Global, text: &[u8]) -> Result<RecordReader<'_>, TextError>
     Ok(RecordReader::open(alloc, text))
 }
 
-// Takes the tapes of a history, which all records that are left are of.
-fn take_tapes<'a>(
+// Takes what was let go of so many processes, and answers the number of the record after that.
+fn take_floors<'a>(
     alloc: Global,
     records: &mut RecordReader<'a>,
     row: &mut FieldRow<'a>,
+    count: u32,
+) -> Result<u64, TextError>
+    requires { length records.old + 2 < 2 ^ 64 }
+    ensures exact { Yields (λ number. record { number = number; left = records.new }) result
+        (part_end (floors_left count [] 2 records.old)) }
+    ensures room { IfOk result (λ number. number + length records.new < 2 ^ 64) }
+{
+    let mut floors = Vec::new(alloc);
+    let mut number = 2u64;
+    'floors: while floors.len() < count as usize {
+        if !records.next_row(row)? {
+            return Err(fault_at(number, Fault::BadRecord));
+        }
+        take_floor(&mut floors, number, row)?;
+        number += 1;
+    }
+    Ok(number)
+}
+
+// Takes the tapes of a history, which all records that are left are of, from that number on.
+fn take_tapes<'a>(
+    alloc: Global,
+    records: &mut RecordReader<'a>,
+    first: u64,
+    row: &mut FieldRow<'a>,
     history: &mut History,
 ) -> Result<(), TextError>
-    requires { length records.old + 2 < 2 ^ 64 }
+    requires { first + length records.old < 2 ^ 64 }
     ensures { Yields (λ _. history.new.processes) result
         (whole_front
-        (tapes_left (length history.old.processes) 0 history.old.processes 2 records.old)) }
+        (tapes_left (length history.old.processes) 0 history.old.processes first records.old)) }
 {
     let mut bytes = Vec::new(alloc);
     let mut tapes = 0u32;
-    let mut number = 2u64;
+    let mut number = first;
     'records: while records.next_row(row)? {
         if !take_open_tape(alloc, records, history, tapes, &mut number, row, &mut bytes)? {
             return close_tapes(history, tapes, number);
@@ -73,9 +105,10 @@ fn history_in(alloc: Global, text: &[u8]) -> Result<History, TextError>
     if !records.next_row(&mut row)? {
         return Err(fault_at(1, Fault::NoWorld));
     }
-    let (_, n) = head_at(&row)?;
+    let (version, n) = head_at(&row)?;
     let mut history = begin_history(alloc, n)?;
-    take_tapes(alloc, &mut records, &mut row, &mut history)?;
+    let first = take_floors(alloc, &mut records, &mut row, floors_in(version, n))?;
+    take_tapes(alloc, &mut records, first, &mut row, &mut history)?;
     Ok(history)
 }
 
@@ -117,11 +150,11 @@ fn certificate_in(alloc: Global, text: &[u8], n: u32, version: u32) -> Result<Cl
 
 /// The history that a text spells.
 ///
-/// The first record tells the version, 1 or 2, and how many processes there are: at most 64 in
-/// version 1, which is the one difference between the versions of a history. Their tapes follow in
-/// order, each with its events. The events need not fit together: it asks only that each number
-/// keeps to its range, that the processes are there, and that bodies, states and tapes keep to
-/// their limits.
+/// The first record tells the version, from 1 to 4, and how many processes there are: at most 64 in
+/// version 1. In version 4 it is followed by what was let go of each, which is tested and not kept.
+/// Their tapes follow in order, each with its events. The events need not fit together: it asks
+/// only that each number keeps to its range, that the processes are there, and that bodies, states
+/// and tapes keep to their limits.
 ///
 /// Refused with the first fault of the text, the records taken in their order, and the questions to
 /// a record in the order in which its definition asks them. A byte that no text has is of record 0

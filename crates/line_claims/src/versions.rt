@@ -9,8 +9,12 @@ use line_names::MOST_PROCESSES;
 /// The latest version of scripts. The earliest version of a text is 1.
 pub const LAST_VERSION: u32 = 2;
 
-/// The latest version of check texts, and of histories: it has the whole answer to a recovery.
-pub const LAST_CHECK_VERSION: u32 = 3;
+/// The version of check texts with the whole answer to a recovery, where nothing was let go.
+pub(crate) const ANSWER_VERSION: u32 = 3;
+
+/// The latest version of check texts, and of histories: it tells what was let go of each process. A
+/// check text may have the whole answer to a recovery from version 3 on.
+pub const LAST_CHECK_VERSION: u32 = 4;
 
 /// The greatest number of processes of a text of version 1, and of choices of a line in it. A text
 /// of a later version may have as many processes as there may be.
@@ -46,5 +50,13 @@ pub fn earliest_version(n: u32) -> u32
 pub(crate) fn starts_in(version: u32, n: u32) -> u32
     ensures { result ≡ spec.starts_in version n }
 {
-    if version == 3 { n } else { 0 }
+    if version >= 3 { n } else { 0 }
+}
+
+/// Of how many processes a history of that version among `n` says what was let go: of all of them
+/// from version 4 on.
+pub(crate) fn floors_in(version: u32, n: u32) -> u32
+    ensures { result ≡ spec.floors_in version n }
+{
+    if version >= 4 { n } else { 0 }
 }

@@ -1,6 +1,6 @@
 //! Histories, written record by record.
 
-ghost use Rattle.std.specs.Prelude.{◌<◌, ◌++◌, OnOk, length, map};
+ghost use Rattle.std.specs.Prelude.{◌<◌, ◌++◌, [], OnOk, length, map};
 ghost use Rattle.std.specs.List.{AllByRecursion};
 ghost use Rattle.line_devices.specs.Devices.{Outputs};
 ghost use Rattle.line_fields.specs.Texts.{record_text, records_text};
@@ -9,8 +9,11 @@ ghost use Rattle.line_tape.specs.Shown.{event_of_ref};
 ghost use Rattle.line_claims.specs.Ranges.{AreRoundsInRange, FitsMemory, FitsProcess, FitsWords};
 ghost use Rattle.line_claims.specs.Ranges.{IsHistoryInRange};
 ghost use Rattle.line_claims.specs.Records as spec;
+ghost use Rattle.line_claims.specs.declared.versions.TheConstants.{LAST_CHECK_VERSION};
 
+use crate::floors::{FloorRef, put_floors};
 use crate::spellings::{number_field, numbers_of};
+use crate::versions::LAST_CHECK_VERSION;
 use line_devices::{DeviceFault, Sink};
 use line_fields::{Field, RecordWriter, put_ending, put_fields, put_numbers};
 use line_names::{Choice, MsgName, ProcId};
@@ -124,7 +127,31 @@ fn put_tape_of<K: Sink>(
     put_events(sink, writer, &events)
 }
 
-/// Writes the records of a history in a text of that version after what a writer holds.
+// Writes the records of the tapes of a history.
+fn put_tapes<K: Sink>(
+    sink: &mut K,
+    writer: &mut RecordWriter,
+    history: &History,
+) -> Result<(), DeviceFault>
+    ensures put { Outputs result (K.taken sink.old) (K.taken sink.new) (K.faults sink.old)
+        (K.faults sink.new) writer.new
+        (writer.old ++ records_text (spec.tapes_records 0 history.now.processes)) }
+    ensures fits { OnOk result (FitsMemory history.now.processes) }
+    ensures range { OnOk result
+        (AreRoundsInRange history.now.processes → IsHistoryInRange history.now.processes) }
+{
+    let n = history.n();
+    for p in 0..n {
+        let Ok(p) = ProcId::try_new(p, n) else {
+            unreachable!()
+        };
+        put_tape_of(sink, writer, history, p)?;
+    }
+    Ok(())
+}
+
+/// Writes the records of a history in a text of that version, where nothing was let go, after what
+/// a writer holds.
 ///
 /// It asks for no memory, and fails only where the sink fails; then a prefix of what was held and
 /// of the records is put. What was written stood in memory, so it is known to be in the ranges of
@@ -137,18 +164,40 @@ pub fn put_history<K: Sink>(
 ) -> Result<(), DeviceFault>
     ensures put { Outputs result (K.taken sink.old) (K.taken sink.new) (K.faults sink.old)
         (K.faults sink.new) writer.new
-        (writer.old ++ records_text (spec.front_records version history.now.processes)) }
+        (writer.old ++ records_text (spec.front_records version [] history.now.processes)) }
     ensures fits { OnOk result (FitsMemory history.now.processes) }
     ensures range { OnOk result
         (AreRoundsInRange history.now.processes → IsHistoryInRange history.now.processes) }
 {
     let n = history.n();
     put_numbers(sink, writer, b"history", &[version as u64, n as u64])?;
-    for p in 0..n {
-        let Ok(p) = ProcId::try_new(p, n) else {
-            unreachable!()
-        };
-        put_tape_of(sink, writer, history, p)?;
-    }
-    Ok(())
+    put_tapes(sink, writer, history)
+}
+
+/// Writes the records of what is left of a history, in a text of version 4, after what a writer
+/// holds: what was let go of each process before it, and then its tapes, in numbers of its own.
+///
+/// It fails as `put_history` does, and takes no memory either.
+pub fn put_history_from<K: Sink>(
+    sink: &mut K,
+    writer: &mut RecordWriter,
+    floor: &FloorRef<'_>,
+    history: &History,
+) -> Result<(), DeviceFault>
+    ensures put { Outputs result (K.taken sink.old) (K.taken sink.new) (K.faults sink.old)
+        (K.faults sink.new) writer.new
+        (writer.old
+        ++ records_text
+        (spec.front_records LAST_CHECK_VERSION
+        (spec.floors_at (length history.now.processes) floor.now.checks.now floor.now.sends.now)
+        history.now.processes)) }
+    ensures fits { OnOk result (FitsMemory history.now.processes) }
+    ensures range { OnOk result
+        (AreRoundsInRange history.now.processes → IsHistoryInRange history.now.processes) }
+{
+    let n = history.n();
+    let numbers = [LAST_CHECK_VERSION as u64, n as u64];
+    put_numbers(sink, writer, b"history", &numbers)?;
+    put_floors(sink, writer, n, floor)?;
+    put_tapes(sink, writer, history)
 }

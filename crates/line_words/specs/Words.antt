@@ -1,10 +1,10 @@
 -- The command line of the program, and the job that the words of one ask for.
 use Rattle.std.specs.Prelude.{◌≡◌, ◌≢◌, ◌⊎◌, ◌≤◌, ℕ, List, [], ◌∷◌, IsSomeAnd, Option, None, Some}
-use Rattle.std.specs.Prelude.{codes, if◌then◌else◌, true, ⊤}
+use Rattle.std.specs.Prelude.{codes, if◌then◌else◌, option_map, true, ⊤}
 use Rattle.std.specs.Str.{bytes_eq}
 use Rattle.std.specs.Str.Parse.{IsNumeral, digits_value, without_leading_plus}
 use Rattle.clap.specs.Words.{App, IsAmong, Kinds, Row, Rule, Text, fault_of, new_app, new_rule}
-use Rattle.clap.specs.Words.{one_of, subcommand_of, takes, with_rule, with_subcommand}
+use Rattle.clap.specs.Words.{first_of, one_of, subcommand_of, takes, with_rule, with_subcommand}
 use Rattle.clap.specs.Simple.{on_top}
 use Rattle.clap.specs.declared.error.kind.ErrorKind.{ErrorKind}
 use Rattle.clap.specs.declared.error.kind.ErrorKind.TheVariants as errors
@@ -18,6 +18,14 @@ use Rattle.line_words.specs.declared.faults.WordsFault.TheVariants as faults
 abbrev pub option : Text → Text → Rule
 option name default =
     record (new_rule name) { long = Some name; value_names = 1; defaults = default ∷ [] }
+
+-- an option with one value, which has none where it isn't given
+abbrev pub own_option : Text → Rule
+own_option name = record (new_rule name) { long = Some name; value_names = 1 }
+
+-- the subcommand for records that come one by one: it may name a file
+abbrev pub serve_subcommand : App
+serve_subcommand = with_rule (new_app (codes "serve")) (own_option (codes "from"))
 
 -- the subcommand for drills: two workers and one round where the words say nothing else
 abbrev pub drill_subcommand : App
@@ -38,7 +46,7 @@ with_bare app name = with_subcommand app (new_app name).top
 abbrev pub recline : App
 recline =
     let run = with_bare (as_program (new_app (codes "recline"))) (codes "run") in
-    let collect = with_bare (with_bare run (codes "serve")) (codes "collect") in
+    let collect = with_bare (with_subcommand run serve_subcommand.top) (codes "collect") in
     let check = with_bare collect (codes "check") in
     with_subcommand check drill_subcommand.top
 
@@ -67,7 +75,9 @@ pub record IsNumberOf (name : Text) (least most : ℕ) (options : List Row) (num
 -- the job for which a subcommand with its options asks
 abbrev pub IsAskedBy : Job → Text × List Row → Type 0
 IsAskedBy Run asked = asked.0 ≡ codes "run"
-IsAskedBy Serve asked = asked.0 ≡ codes "serve"
+IsAskedBy (Serve from) asked =
+    (asked.0 ≡ codes "serve")
+    × (option_map (λ file. file.now) from ≡ first_of (codes "from") asked.1)
 IsAskedBy Collect asked = asked.0 ≡ codes "collect"
 IsAskedBy Check asked = asked.0 ≡ codes "check"
 IsAskedBy (Drill workers rounds) asked =

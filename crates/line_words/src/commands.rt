@@ -3,8 +3,8 @@ ghost use Rattle.std.specs.Prelude.{◌≡◌, IfOk, IfErr, codes, false, true, 
 ghost use Rattle.clap.specs.Words.{FailsBy, app_of, kind_of, new_app, rule_of};
 ghost use Rattle.clap.specs.Words.{subcommand_of, subcommand_rows_of, takes};
 ghost use Rattle.clap.specs.declared.builder.command.Command.TheViews.{out-Command};
-ghost use Rattle.line_words.specs.Words.{as_program, drill_subcommand, option, recline};
-ghost use Rattle.line_words.specs.Words.{refusals_of};
+ghost use Rattle.line_words.specs.Words.{as_program, drill_subcommand, option, own_option};
+ghost use Rattle.line_words.specs.Words.{recline, refusals_of, serve_subcommand};
 
 use crate::helps;
 use clap::error::ErrorKind;
@@ -26,6 +26,17 @@ fn option_of<'a>(
         .long(name)
         .value_name(value)
         .default_value(default)
+        .help(help)
+}
+
+/// An option with one value, which it has only where it is given.
+fn own_option_of<'a>(alloc: Global, name: &'a str, value: &'a str, help: &'a str) -> Arg<'a>
+    ensures rule { rule_of result ≡ own_option name.entry.now }
+    ensures local { result.global ≡ false }
+{
+    Arg::new(alloc, name)
+        .long(name)
+        .value_name(value)
         .help(help)
 }
 
@@ -53,6 +64,17 @@ fn drill_command<'a>(alloc: Global) -> Result<Command<'a>, AllocError>
     with_workers.arg(option_of(alloc, "rounds", "K", "1", help))
 }
 
+/// The subcommand for records that come one by one, with its option.
+fn serve_command<'a>(alloc: Global) -> Result<Command<'a>, AllocError>
+    ensures shape { IfOk result (λ command. app_of command ≡ serve_subcommand) }
+    ensures local { IfOk result (λ command. (out-Command command).has_globals ≡ false) }
+{
+    let about = "Answers the records on standard input as they come, for as long as it lasts";
+    let help = "A file with the text of a saved machine, which is opened before that";
+    let bare = plain_command(alloc, "serve", about, helps::SERVE);
+    bare.arg(own_option_of(alloc, "from", "FILE", help))
+}
+
 /// The command of the program without its subcommands.
 fn bare_command<'a>(alloc: Global) -> Command<'a>
     ensures { app_of result ≡ as_program (new_app (codes "recline")) }
@@ -70,13 +92,12 @@ fn recline_command<'a>(alloc: Global) -> Result<Command<'a>, AllocError>
     ensures { IfOk result (λ command. app_of command ≡ recline) }
 {
     let run = "Reads a script on standard input and writes the replies on standard output";
-    let serve = "Answers the records on standard input as they come, for as long as it lasts";
     let collect =
         "Collects what processes report on standard input, as it comes, and plans from that";
     let check = "Reads a history and a claim on it on standard input and writes the verdict on \
                  standard output";
     let with_run = bare_command(alloc).subcommand(plain_command(alloc, "run", run, helps::RUN))?;
-    let with_serve = with_run.subcommand(plain_command(alloc, "serve", serve, helps::SERVE))?;
+    let with_serve = with_run.subcommand(serve_command(alloc)?)?;
     let reports = plain_command(alloc, "collect", collect, helps::COLLECT);
     let with_collect = with_serve.subcommand(reports)?;
     let with_check = with_collect.subcommand(plain_command(alloc, "check", check, helps::CHECK))?;

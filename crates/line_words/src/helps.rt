@@ -49,8 +49,11 @@ Records are those of a script, and an empty line ends each answer. What is read 
   < line,1,now,0,-
   <
 
-Statuses: 0 all commands were done; 1 a command was refused; 2 a record had a fault; 3 memory was
-wanting at the start, or standard input or output failed.
+The command save tells the text of a machine, from which another goes on: it may stand in place of
+the record world, and FILE may have it, which is read before standard input and not answered.
+
+Statuses: 0 all commands were done; 1 a command was refused; 2 a record had a fault, or FILE; 3
+memory was wanting at the start, FILE cannot be read, or standard input or output failed.
 All records and answers: docs/FORMATS.md, and recline(1).";
 
 /// A conversation of reports, and what the statuses of a collection mean.

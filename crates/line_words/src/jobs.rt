@@ -1,5 +1,5 @@
 //! What the program is asked to do, as `clap` found it in the words.
-ghost use Rattle.std.specs.Prelude.{◌≡◌, ◌↔◌, ℕ, IsSomeAnd, Some, codes};
+ghost use Rattle.std.specs.Prelude.{◌≡◌, ◌↔◌, ℕ, IfNone, IfSome, IsSomeAnd, Some, codes};
 ghost use Rattle.clap.specs.Words.{found_of, rows_of, subcommand_rows_of};
 ghost use Rattle.line_words.specs.Words.{IsAskedBy, IsNumberOf};
 
@@ -10,11 +10,14 @@ pub const MOST_DRILL_WORKERS: u32 = 64;
 
 /// What the program is asked to do.
 #[derive(Clone, Copy, Debug, PartialEq, Eq)]
-pub enum Job {
+pub enum Job<'a> {
     /// Runs a script.
     Run,
     /// Answers records as they come.
-    Serve,
+    Serve {
+        /// The file that the text of a saved machine is read from before that, if one is named.
+        from: Option<&'a str>,
+    },
     /// Collects what processes report.
     Collect,
     /// Judges a claim.
@@ -38,23 +41,36 @@ fn number_of(options: &ArgMatches, option: &str, least: u32, most: u32) -> Optio
 }
 
 /// The drill that these options ask for.
-fn drill_of(options: &ArgMatches) -> Option<Job>
-    ensures { (job : Job) → (result ≡ Some job)
-        ↔ IsAskedBy job (codes "drill", rows_of (found_of options.now)) }
+fn drill_of<'a>(options: &ArgMatches<'a>) -> Option<Job<'a>>
+    ensures some { IfSome result
+        (λ job. IsAskedBy job (codes "drill", rows_of (found_of options.now))) }
+    ensures none { IfNone result
+        ((job : Job) → IsAskedBy job (codes "drill", rows_of (found_of options.now)) → ⊥) }
 {
     let workers = number_of(options, "workers", 2, MOST_DRILL_WORKERS)?;
     let rounds = number_of(options, "rounds", 1, 1_000)?;
     Some(Job::Drill { workers, rounds })
 }
 
+/// The service that these options ask for.
+fn serve_of<'a>(options: &ArgMatches<'a>) -> Job<'a>
+    ensures { IsAskedBy result (codes "serve", rows_of (found_of options.now)) }
+{
+    Job::Serve {
+        from: options.get_str("from"),
+    }
+}
+
 /// The job that was found in the words.
-pub(crate) fn job_of(matches: &ArgMatches) -> Option<Job>
-    ensures { (job : Job) → (result ≡ Some job)
-        ↔ IsSomeAnd (subcommand_rows_of matches.now) (IsAskedBy job) }
+pub(crate) fn job_of<'a>(matches: &ArgMatches<'a>) -> Option<Job<'a>>
+    ensures some { IfSome result
+        (λ job. IsSomeAnd (subcommand_rows_of matches.now) (IsAskedBy job)) }
+    ensures none { IfNone result
+        ((job : Job) → IsSomeAnd (subcommand_rows_of matches.now) (IsAskedBy job) → ⊥) }
 {
     match matches.subcommand()? {
         ("run", _) => Some(Job::Run),
-        ("serve", _) => Some(Job::Serve),
+        ("serve", options) => Some(serve_of(options)),
         ("collect", _) => Some(Job::Collect),
         ("check", _) => Some(Job::Check),
         ("drill", options) => drill_of(options),

@@ -1,6 +1,7 @@
 //! The words of a command line, and the job that they ask for.
-ghost use Rattle.std.specs.Prelude.{◌≡◌, ◌∷◌, [], IfOk, IfErr, codes, true, map};
-ghost use Rattle.clap.specs.Words.{takes};
+ghost use Rattle.std.specs.Prelude.{◌≡◌, ◌∷◌, [], IfOk, IfErr, None, Some, codes, true, map};
+ghost use Rattle.std.specs.Borrow.{Bor};
+ghost use Rattle.clap.specs.Words.{Text, takes};
 ghost use Rattle.line_words.specs.Words.{AsksFor, HasCause, IsJobInRange, IsTakenAs, recline};
 
 use crate::commands::matches_of_words;
@@ -9,7 +10,7 @@ use crate::jobs::{Job, job_of};
 use std::alloc::Global;
 
 /// The job that the words ask for, the program's name first.
-pub fn command_of<'a>(alloc: Global, words: &'a [&'a str]) -> Result<Job, WordsFault>
+pub fn command_of<'a>(alloc: Global, words: &'a [&'a str]) -> Result<Job<'a>, WordsFault>
     ensures ok { IfOk result (λ job. AsksFor (map (λ w. w.now) words.entry.now) job) }
     ensures range { IfOk result IsJobInRange }
 
@@ -31,7 +32,10 @@ pub fn command_of<'a>(alloc: Global, words: &'a [&'a str]) -> Result<Job, WordsF
 /// Command lines that are taken, and the jobs that they ask for.
 pub fn jobs_are_taken()
     ensures run { IsTakenAs (codes "recline" ∷ codes "run" ∷ []) Job.Run }
-    ensures serve { IsTakenAs (codes "recline" ∷ codes "serve" ∷ []) Job.Serve }
+    ensures serve { IsTakenAs (codes "recline" ∷ codes "serve" ∷ []) (Job.Serve None) }
+    ensures saved { (file : Bor Text) → file.now ≡ codes "saved.txt"
+        → IsTakenAs (codes "recline" ∷ codes "serve" ∷ codes "--from" ∷ codes "saved.txt" ∷ [])
+        (Job.Serve (Some file)) }
     ensures collect { IsTakenAs (codes "recline" ∷ codes "collect" ∷ []) Job.Collect }
     ensures check { IsTakenAs (codes "recline" ∷ codes "check" ∷ []) Job.Check }
     ensures drill { IsTakenAs (codes "recline" ∷ codes "drill" ∷ []) (Job.Drill 2 1) }

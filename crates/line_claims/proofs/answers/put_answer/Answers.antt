@@ -1,5 +1,5 @@
 -- The parts are written one after another.
-use Rattle.std.proofs.Common.{List, length}
+use Rattle.std.proofs.Common.{List, [], length}
 use Rattle.line_check.specs.Answers.{replays_due, starts_due}
 use Rattle.line_devices.proofs.OutputLemmas.{out_front, out_more, out_none}
 use Rattle.line_fields.proofs.OutletLemmas.{one_text}
@@ -16,14 +16,14 @@ returns-in_err-put_history g c =
     let history : List Process = c.args.history.now.processes in
     let line : List Choice = c.args.claim.now.line.now in
     let claim : Claim = record { marks = in_order history c.args.claim.now.marks.now; failed = c.args.claim.now.failed.now; line = line; certificate = c.args.claim.now.certificate.now; starts = starts_due history line; replays = replays_due history line } in
-    out_front _ _ _ _ _ (front_first 3 history claim) (out_none _ _ _ _) c.in_err-put_history.ensures.put c.from_residual.ensures.1
+    out_front _ _ _ _ _ (front_first 3 [] history claim) (out_none _ _ _ _) c.in_err-put_history.ensures.put c.from_residual.ensures.1
 
 pub returns-in_err-put_marks : goal.returns-in_err-put_marks
 returns-in_err-put_marks g c =
     let history : List Process = c.args.history.now.processes in
     let line : List Choice = c.args.claim.now.line.now in
     let claim : Claim = record { marks = in_order history c.args.claim.now.marks.now; failed = c.args.claim.now.failed.now; line = line; certificate = c.args.claim.now.certificate.now; starts = starts_due history line; replays = replays_due history line } in
-    let front = out_more _ _ (front_first 3 history claim) (out_none _ _ _ _) c.in_ok-put_history.ensures.put in
+    let front = out_more _ _ (front_first 3 [] history claim) (out_none _ _ _ _) c.in_ok-put_history.ensures.put in
     out_front _ _ _ _ _ (marks_next (length history) claim) front c.in_err-put_marks.ensures c.from_residual-in_err-put_marks.ensures.1
 
 pub returns-in_err-put_failed : goal.returns-in_err-put_failed
@@ -31,7 +31,7 @@ returns-in_err-put_failed g c =
     let history : List Process = c.args.history.now.processes in
     let line : List Choice = c.args.claim.now.line.now in
     let claim : Claim = record { marks = in_order history c.args.claim.now.marks.now; failed = c.args.claim.now.failed.now; line = line; certificate = c.args.claim.now.certificate.now; starts = starts_due history line; replays = replays_due history line } in
-    let front = out_more _ _ (front_first 3 history claim) (out_none _ _ _ _) c.in_ok-put_history.ensures.put in
+    let front = out_more _ _ (front_first 3 [] history claim) (out_none _ _ _ _) c.in_ok-put_history.ensures.put in
     let marks = out_more _ _ (marks_next (length history) claim) front c.in_ok-put_marks.ensures in
     out_front _ _ _ _ _ (failed_next (length history) claim) marks (rw c.n.ensures.value at c.in_err-put_failed.ensures) c.from_residual-in_err-put_failed.ensures.1
 
@@ -40,7 +40,7 @@ returns-in_err-put_line g c =
     let history : List Process = c.args.history.now.processes in
     let line : List Choice = c.args.claim.now.line.now in
     let claim : Claim = record { marks = in_order history c.args.claim.now.marks.now; failed = c.args.claim.now.failed.now; line = line; certificate = c.args.claim.now.certificate.now; starts = starts_due history line; replays = replays_due history line } in
-    let front = out_more _ _ (front_first 3 history claim) (out_none _ _ _ _) c.in_ok-put_history.ensures.put in
+    let front = out_more _ _ (front_first 3 [] history claim) (out_none _ _ _ _) c.in_ok-put_history.ensures.put in
     let marks = out_more _ _ (marks_next (length history) claim) front c.in_ok-put_marks.ensures in
     let failed = out_more _ _ (failed_next (length history) claim) marks (rw c.n.ensures.value at c.in_ok-put_failed.ensures) in
     out_front _ _ _ _ _ (line_next claim) failed c.in_err-put_line.ensures c.from_residual-in_err-put_line.ensures.1
@@ -50,7 +50,7 @@ returns-in_err-put_passes g c =
     let history : List Process = c.args.history.now.processes in
     let line : List Choice = c.args.claim.now.line.now in
     let claim : Claim = record { marks = in_order history c.args.claim.now.marks.now; failed = c.args.claim.now.failed.now; line = line; certificate = c.args.claim.now.certificate.now; starts = starts_due history line; replays = replays_due history line } in
-    let front = out_more _ _ (front_first 3 history claim) (out_none _ _ _ _) c.in_ok-put_history.ensures.put in
+    let front = out_more _ _ (front_first 3 [] history claim) (out_none _ _ _ _) c.in_ok-put_history.ensures.put in
     let marks = out_more _ _ (marks_next (length history) claim) front c.in_ok-put_marks.ensures in
     let failed = out_more _ _ (failed_next (length history) claim) marks (rw c.n.ensures.value at c.in_ok-put_failed.ensures) in
     let told = out_more _ _ (line_next claim) failed c.in_ok-put_line.ensures in
@@ -61,7 +61,7 @@ returns-in_err-put_starts g c =
     let history : List Process = c.args.history.now.processes in
     let line : List Choice = c.args.claim.now.line.now in
     let claim : Claim = record { marks = in_order history c.args.claim.now.marks.now; failed = c.args.claim.now.failed.now; line = line; certificate = c.args.claim.now.certificate.now; starts = starts_due history line; replays = replays_due history line } in
-    let front = out_more _ _ (front_first 3 history claim) (out_none _ _ _ _) c.in_ok-put_history.ensures.put in
+    let front = out_more _ _ (front_first 3 [] history claim) (out_none _ _ _ _) c.in_ok-put_history.ensures.put in
     let marks = out_more _ _ (marks_next (length history) claim) front c.in_ok-put_marks.ensures in
     let failed = out_more _ _ (failed_next (length history) claim) marks (rw c.n.ensures.value at c.in_ok-put_failed.ensures) in
     let told = out_more _ _ (line_next claim) failed c.in_ok-put_line.ensures in
@@ -73,7 +73,7 @@ returns-in_err-put_replays g c =
     let history : List Process = c.args.history.now.processes in
     let line : List Choice = c.args.claim.now.line.now in
     let claim : Claim = record { marks = in_order history c.args.claim.now.marks.now; failed = c.args.claim.now.failed.now; line = line; certificate = c.args.claim.now.certificate.now; starts = starts_due history line; replays = replays_due history line } in
-    let front = out_more _ _ (front_first 3 history claim) (out_none _ _ _ _) c.in_ok-put_history.ensures.put in
+    let front = out_more _ _ (front_first 3 [] history claim) (out_none _ _ _ _) c.in_ok-put_history.ensures.put in
     let marks = out_more _ _ (marks_next (length history) claim) front c.in_ok-put_marks.ensures in
     let failed = out_more _ _ (failed_next (length history) claim) marks (rw c.n.ensures.value at c.in_ok-put_failed.ensures) in
     let told = out_more _ _ (line_next claim) failed c.in_ok-put_line.ensures in
@@ -86,7 +86,7 @@ returns g c =
     let history : List Process = c.args.history.now.processes in
     let line : List Choice = c.args.claim.now.line.now in
     let claim : Claim = record { marks = in_order history c.args.claim.now.marks.now; failed = c.args.claim.now.failed.now; line = line; certificate = c.args.claim.now.certificate.now; starts = starts_due history line; replays = replays_due history line } in
-    let front = out_more _ _ (front_first 3 history claim) (out_none _ _ _ _) c.in_ok-put_history.ensures.put in
+    let front = out_more _ _ (front_first 3 [] history claim) (out_none _ _ _ _) c.in_ok-put_history.ensures.put in
     let marks = out_more _ _ (marks_next (length history) claim) front c.in_ok-put_marks.ensures in
     let failed = out_more _ _ (failed_next (length history) claim) marks (rw c.n.ensures.value at c.in_ok-put_failed.ensures) in
     let told = out_more _ _ (line_next claim) failed c.in_ok-put_line.ensures in

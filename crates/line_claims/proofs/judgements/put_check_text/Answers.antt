@@ -12,20 +12,20 @@ pub returns-in_err-put_history : goal.returns-in_err-put_history
 returns-in_err-put_history g c =
     let history : List Process = c.args.history.now.processes in
     let claim : Claim = record { marks = in_order history c.args.marks.now; failed = c.args.failed.now; line = c.args.line.now; certificate = c.args.certificate.now; starts = []; replays = [] } in
-    out_front _ _ _ _ _ (front_first (version_of claim.marks) history claim) (out_none _ _ _ _) (rw c.version_of-version.ensures at c.in_err-put_history.ensures.put) c.from_residual.ensures.1
+    out_front _ _ _ _ _ (front_first (version_of claim.marks) [] history claim) (out_none _ _ _ _) (rw c.version_of-version.ensures at c.in_err-put_history.ensures.put) c.from_residual.ensures.1
 
 pub returns-in_err-put_marks : goal.returns-in_err-put_marks
 returns-in_err-put_marks g c =
     let history : List Process = c.args.history.now.processes in
     let claim : Claim = record { marks = in_order history c.args.marks.now; failed = c.args.failed.now; line = c.args.line.now; certificate = c.args.certificate.now; starts = []; replays = [] } in
-    let front = out_more _ _ (front_first (version_of claim.marks) history claim) (out_none _ _ _ _) (rw c.version_of-version.ensures at c.in_ok-put_history.ensures.put) in
+    let front = out_more _ _ (front_first (version_of claim.marks) [] history claim) (out_none _ _ _ _) (rw c.version_of-version.ensures at c.in_ok-put_history.ensures.put) in
     out_front _ _ _ _ _ (marks_next (length history) claim) front c.in_err-put_marks.ensures c.from_residual-in_err-put_marks.ensures.1
 
 pub returns-in_err-put_failed : goal.returns-in_err-put_failed
 returns-in_err-put_failed g c =
     let history : List Process = c.args.history.now.processes in
     let claim : Claim = record { marks = in_order history c.args.marks.now; failed = c.args.failed.now; line = c.args.line.now; certificate = c.args.certificate.now; starts = []; replays = [] } in
-    let front = out_more _ _ (front_first (version_of claim.marks) history claim) (out_none _ _ _ _) (rw c.version_of-version.ensures at c.in_ok-put_history.ensures.put) in
+    let front = out_more _ _ (front_first (version_of claim.marks) [] history claim) (out_none _ _ _ _) (rw c.version_of-version.ensures at c.in_ok-put_history.ensures.put) in
     let marks = out_more _ _ (marks_next (length history) claim) front c.in_ok-put_marks.ensures in
     out_front _ _ _ _ _ (failed_next (length history) claim) marks (rw c.n.ensures.value at c.in_err-put_failed.ensures) c.from_residual-in_err-put_failed.ensures.1
 
@@ -33,7 +33,7 @@ pub returns-in_err-put_line : goal.returns-in_err-put_line
 returns-in_err-put_line g c =
     let history : List Process = c.args.history.now.processes in
     let claim : Claim = record { marks = in_order history c.args.marks.now; failed = c.args.failed.now; line = c.args.line.now; certificate = c.args.certificate.now; starts = []; replays = [] } in
-    let front = out_more _ _ (front_first (version_of claim.marks) history claim) (out_none _ _ _ _) (rw c.version_of-version.ensures at c.in_ok-put_history.ensures.put) in
+    let front = out_more _ _ (front_first (version_of claim.marks) [] history claim) (out_none _ _ _ _) (rw c.version_of-version.ensures at c.in_ok-put_history.ensures.put) in
     let marks = out_more _ _ (marks_next (length history) claim) front c.in_ok-put_marks.ensures in
     let failed = out_more _ _ (failed_next (length history) claim) marks (rw c.n.ensures.value at c.in_ok-put_failed.ensures) in
     out_front _ _ _ _ _ (line_next claim) failed c.in_err-put_line.ensures c.from_residual-in_err-put_line.ensures.1
@@ -42,7 +42,7 @@ pub returns-in_err-put_passes : goal.returns-in_err-put_passes
 returns-in_err-put_passes g c =
     let history : List Process = c.args.history.now.processes in
     let claim : Claim = record { marks = in_order history c.args.marks.now; failed = c.args.failed.now; line = c.args.line.now; certificate = c.args.certificate.now; starts = []; replays = [] } in
-    let front = out_more _ _ (front_first (version_of claim.marks) history claim) (out_none _ _ _ _) (rw c.version_of-version.ensures at c.in_ok-put_history.ensures.put) in
+    let front = out_more _ _ (front_first (version_of claim.marks) [] history claim) (out_none _ _ _ _) (rw c.version_of-version.ensures at c.in_ok-put_history.ensures.put) in
     let marks = out_more _ _ (marks_next (length history) claim) front c.in_ok-put_marks.ensures in
     let failed = out_more _ _ (failed_next (length history) claim) marks (rw c.n.ensures.value at c.in_ok-put_failed.ensures) in
     let line = out_more _ _ (line_next claim) failed c.in_ok-put_line.ensures in
@@ -52,7 +52,7 @@ pub returns : goal.returns
 returns g c =
     let history : List Process = c.args.history.now.processes in
     let claim : Claim = record { marks = in_order history c.args.marks.now; failed = c.args.failed.now; line = c.args.line.now; certificate = c.args.certificate.now; starts = []; replays = [] } in
-    let front = out_more _ _ (front_first (version_of claim.marks) history claim) (out_none _ _ _ _) (rw c.version_of-version.ensures at c.in_ok-put_history.ensures.put) in
+    let front = out_more _ _ (front_first (version_of claim.marks) [] history claim) (out_none _ _ _ _) (rw c.version_of-version.ensures at c.in_ok-put_history.ensures.put) in
     let marks = out_more _ _ (marks_next (length history) claim) front c.in_ok-put_marks.ensures in
     let failed = out_more _ _ (failed_next (length history) claim) marks (rw c.n.ensures.value at c.in_ok-put_failed.ensures) in
     let line = out_more _ _ (line_next claim) failed c.in_ok-put_line.ensures in

@@ -8,4 +8,4 @@ returns-in_err-version-clause-exact c =
     rw (c.requires, passed_on.1, passed_on.2) (λ rest. check_headless _ _ (c.in_err-version.ensures.exact rest))
 
 pub returns-clause-exact : goal.returns-clause-exact
-returns-clause-exact c = rw c.requires (λ rest. check_begun _ _ _ rest _ (c.in_ok-version.ensures.exact rest) c.in_ok-history.ensures.exact c.in_ok-claim.ensures.exact)
+returns-clause-exact c = rw (c.requires, c.first_stage.ensures) (λ rest. check_begun _ _ _ rest _ (c.in_ok-version.ensures.exact rest) c.in_ok-history.ensures.exact c.new.ensures.items c.in_ok-claim.ensures.exact)

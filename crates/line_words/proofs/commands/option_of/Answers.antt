@@ -1,15 +1,10 @@
 -- Each setting of an option changes what `clap` reads of it in one place.
-use Rattle.std.proofs.Common.{ap, Bool, Bor, Some, [], ◌∷◌, ◌≡◌, ◌∙◌}
+use Rattle.std.proofs.Common.{ap, Bool, Bor, [], ◌∷◌, ◌≡◌, ◌∙◌}
 use Rattle.clap.specs.Words.{Rule, Text, rule_of}
 use Rattle.clap.specs.declared.builder.arg.Arg.{Arg}
 use Rattle.clap.specs.declared.builder.texts.Texts.TheVariants.{One}
+use Rattle.line_words.proofs.OptionLemmas.{with_long, with_value_name}
 use Rattle.line_words.proofs.commands.option_of.Goals as goal
-
-with_long : (old new : Arg) (name : Bor Text) (rule : Rule) → new ≡ record old { long = Some name } → rule_of old ≡ rule → rule_of new ≡ record rule { long = Some name.now }
-with_long old new name rule set is = ap rule_of set ∙ ap (λ (r : Rule). record r { long = Some name.now }) is
-
-with_value_name : (old new : Arg) (name : Bor Text) → new ≡ record old { val_names = One name } → rule_of new ≡ record (rule_of old) { value_names = 1 }
-with_value_name old new name set = ap rule_of set
 
 with_default : (old new : Arg) (text : Bor Text) → new ≡ record old { default_vals = One text } → rule_of new ≡ record (rule_of old) { defaults = text.now ∷ [] }
 with_default old new text set = ap rule_of set

@@ -1,5 +1,5 @@
 -- Each command line, computed.
-use Rattle.std.proofs.Common.{arith, refl}
+use Rattle.std.proofs.Common.{ap, arith, refl, Some}
 use Rattle.clap.proofs.OnLiterals.{clap_on_literals}
 use Rattle.line_words.proofs.words.jobs_are_taken.Goals as goal
 
@@ -9,7 +9,11 @@ returns-clause-run c = (refl, refl)
 
 pub returns-clause-serve : goal.returns-clause-serve
 unfolding clap_on_literals
-returns-clause-serve c = (refl, refl)
+returns-clause-serve c = (refl, (refl, refl))
+
+pub returns-clause-saved : goal.returns-clause-saved
+unfolding clap_on_literals
+returns-clause-saved c file is = (refl, (refl, ap Some is))
 
 pub returns-clause-collect : goal.returns-clause-collect
 unfolding clap_on_literals
