@@ -1,7 +1,7 @@
 -- A line of checks that survive stays one, as events come and restarts go back to no earlier line.
 use Rattle.std.proofs.Common.{◌≡◌, ◌≢◌, ◌≤◌, ◌<◌, ℕ, zero, suc, ◌+◌, Bool, true, false, cond, List, [], ◌∷◌, ◌++◌, Option, Some, None, length, map, replicate, get_or, refl, sym, ap, ◌∙◌, subst, arith, inl, inr, le-leb}
 use Rattle.std.specs.Prelude.{◌⊎◌, IsTrue, not, ◌&&◌, ◌||◌, ◌==◌, nat_le, slice_set}
-use Rattle.std.specs.List.{AllByRecursion, filter, list_any}
+use Rattle.std.specs.List.{filter, list_any}
 use Rattle.std.proofs.lemmas.Bool.{cases_eq, cases_lt, eqb-true}
 use Rattle.std.proofs.lemmas.List.{get_or-set_same, get_or-set_other, get_or-replicate, get_or_past, length-replicate, set_past}
 use Rattle.std.proofs.lemmas.List.Folds.{list_any-append}
@@ -27,9 +27,6 @@ use Rattle.line_moves.specs.Fates.{events_taken}
 use Rattle.line_moves.specs.Moves.{with_events}
 use Rattle.line_moves.proofs.LineFacts.{IsLine-latest}
 use Rattle.line_moves.proofs.LinkLemmas.{length-with_event}
-use Rattle.line_plan.specs.declared.plans.Plan.{Plan}
-use Rattle.line_scripts.specs.declared.commands.Command.{Command}
-use Rattle.line_scripts.specs.declared.commands.Command.TheVariants as commands
 use Rattle.line_steps.specs.declared.steps.Step.{Step}
 use Rattle.line_steps.specs.declared.steps.Step.TheVariants.{Send, Deliver, Check, Begin, Turn, Damage, Bar, Recover}
 use Rattle.line_world.specs.declared.replies.Answer.{Answer}
@@ -39,13 +36,13 @@ use Rattle.line_world.specs.declared.replies.Reply.TheVariants.{Sent, Took, Mark
 use Rattle.line_world.specs.Machine.{Machine}
 use Rattle.line_world.specs.Refusals.{refusal_of}
 use Rattle.line_world.specs.Runs.{Takes}
-use Rattle.line_world.specs.Steps.{Does, IsPlan, RecoversWith}
+use Rattle.line_world.specs.Steps.{Does, RecoversWith}
 use Rattle.line_world.proofs.StepLemmas.{may_begin, may_check, may_deliver_at, may_send, may_turn_at}
-use Rattle.line_answers.specs.Answers.{CommandAnswer, Answered, Refused, Listing, Shown, Claimed, Planned, Judged, IsEverybody, Tells, TellsAll}
-use Rattle.line_answers.specs.Live.{IsSparing, SparesLine, line_told}
+use Rattle.line_answers.specs.Answers.{IsEverybody}
+use Rattle.line_answers.specs.Live.{IsSparing, line_told}
 
 -- the checks of a line, where it has checks alone
-abbrev index_of : Choice → ℕ
+abbrev pub index_of : Choice → ℕ
 index_of (AtCheck c) = c
 index_of Now = 0
 
@@ -55,7 +52,7 @@ checks_alone (AtCheck c ∷ line) none = ap (λ (rest : List Choice). AtCheck c 
 checks_alone (Now ∷ line) none = absurd (none 0 (omega arith) refl)
 
 -- these checks make a snapshot, and nothing keeps a process from going back to its own
-record Stays (history : List Process) (marks : MarksView) (indices : List ℕ) (channels : ℕ → ℕ → List MsgName) : Type 0 where
+pub record Stays (history : List Process) (marks : MarksView) (indices : List ℕ) (channels : ℕ → ℕ → List MsgName) : Type 0 where
   pub snapshot : IsSnapshot history indices channels
   pub whole : (p c : ℕ) → get_or indices p 0 ≡ suc c → is_damaged marks p (suc c) ≡ false
   pub allowed : (p : ℕ) → is_allowed (bar_at marks p) (AtCheck (get_or indices p 0)) ≡ true
@@ -92,7 +89,7 @@ no_now history marks failed p member Now s same =
     cc wrong
 
 module _ (history : List Process) (marks : MarksView) (failed : List Bool) (all : IsEverybody (length history) failed) (line : List Choice) (latest : IsLatest history marks failed line) where
-  of_checks : check_line (map index_of line) ≡ line
+  pub of_checks : check_line (map index_of line) ≡ line
   of_checks = checks_alone line (λ p within. no_now history marks failed p ((all p).1 (omega (arith, within, latest.recoverable.length_is))) (choice_at line p) (latest.recoverable.surviving p))
 
   surviving_at : (p : ℕ) → survives history marks failed p (AtCheck (get_or (map index_of line) p 0)) ≡ true
@@ -103,7 +100,7 @@ module _ (history : List Process) (marks : MarksView) (failed : List Bool) (all 
   whole_at : (p c : ℕ) → get_or (map index_of line) p 0 ≡ suc c → is_damaged marks p (suc c) ≡ false
   whole_at p c e = whole_check history marks failed p c (subst (λ (k : ℕ). survives history marks failed p (AtCheck k) ≡ true) e (surviving_at p))
 
-  stays_first : Stays history marks (map index_of line) (in_transit_between history (check_line (map index_of line)))
+  pub stays_first : Stays history marks (map index_of line) (in_transit_between history (check_line (map index_of line)))
   stays_first = record {
     snapshot = record {
       line = subst (IsLine history) (sym of_checks) (IsLine-latest history marks failed line latest);
@@ -115,7 +112,7 @@ module _ (history : List Process) (marks : MarksView) (failed : List Bool) (all 
   }
 
 -- while it stays, the latest line is nowhere before it
-reached : (history : List Process) (marks : MarksView) (failed : List Bool) (line : List Choice) (indices : List ℕ) (channels : ℕ → ℕ → List MsgName) → IsLatest history marks failed line → Stays history marks indices channels
+pub reached : (history : List Process) (marks : MarksView) (failed : List Bool) (line : List Choice) (indices : List ℕ) (channels : ℕ → ℕ → List MsgName) → IsLatest history marks failed line → Stays history marks indices channels
     → IsNowhereLater (check_line indices) line
 reached history marks failed line indices channels latest stays =
     latest_reached history marks failed line indices channels latest stays.snapshot
@@ -188,7 +185,7 @@ no_bar n p = elim (cases_lt p n) [
 ]
 
 -- it stays in a machine
-abbrev StaysIn : List ℕ → (ℕ → ℕ → List MsgName) → Machine → Type 0
+abbrev pub StaysIn : List ℕ → (ℕ → ℕ → List MsgName) → Machine → Type 0
 StaysIn indices channels machine = Stays machine.history machine.marks indices channels
 
 module _ (indices : List ℕ) (channels : ℕ → ℕ → List MsgName) where
@@ -255,36 +252,17 @@ module _ (indices : List ℕ) (channels : ℕ → ℕ → List MsgName) where
       })
   stays_done old new (Recover failed) reply none does sparing stays = stays_recovered old new failed reply does stays
 
-  stays_taken : (old new : Machine) (step : Step) (answer : Answer) → Takes old step answer new → IsSparing (check_line indices) step → StaysIn indices channels old → StaysIn indices channels new
+  pub stays_taken : (old new : Machine) (step : Step) (answer : Answer) → Takes old step answer new → IsSparing (check_line indices) step → StaysIn indices channels old → StaysIn indices channels new
   stays_taken old new step (answers.Done reply) takes sparing stays = stays_done old new step reply takes.0 takes.1 sparing stays
   stays_taken old new step (answers.Refused e) takes sparing stays = subst (StaysIn indices channels) (sym takes.1) stays
 
-  stays_told : (old new : Machine) (command : Command) (told : CommandAnswer) → Tells old command told new → SparesLine (check_line indices) command → StaysIn indices channels old → StaysIn indices channels new
-  stays_told old new (commands.Do step) (Answered answer) tells sparing stays = stays_taken old new step answer tells sparing stays
-  stays_told old new (commands.Refused code) (Refused shown) tells sparing stays = subst (StaysIn indices channels) (sym tells.1) stays
-  stays_told old new commands.Rounds (Listing n rounds) tells sparing stays = subst (StaysIn indices channels) (sym tells.2) stays
-  stays_told old new commands.History (Shown history) tells sparing stays = subst (StaysIn indices channels) (sym tells.1) stays
-  stays_told old new (commands.Bundle failed) (Claimed history claim) tells sparing stays = subst (StaysIn indices channels) (sym tells.2) stays
-  stays_told old new (commands.Bundle failed) (Refused code) tells sparing stays = subst (StaysIn indices channels) (sym tells.2) stays
-  stays_told old new (commands.Plan failed) (Planned answer) tells sparing stays = subst (StaysIn indices channels) (sym tells.1) stays
-  stays_told old new (commands.Answer failed) (Judged history claim) tells sparing stays = subst (StaysIn indices channels) (sym tells.2) stays
-  stays_told old new (commands.Answer failed) (Planned (answers.Refused e)) tells sparing stays = subst (StaysIn indices channels) (sym tells.1) stays
-  stays_told old new commands.Live (Planned answer) tells sparing stays = subst (StaysIn indices channels) (sym tells.1) stays
-  stays_told old new command told tells sparing stays = absurd tells
-
-  stays_run : (old new : Machine) (commands : List Command) (told : List CommandAnswer) → TellsAll old commands told new → AllByRecursion (SparesLine (check_line indices)) commands → StaysIn indices channels old → StaysIn indices channels new
-  stays_run old new [] [] run sparing stays = subst (StaysIn indices channels) (sym run) stays
-  stays_run old new [] (one ∷ others) run sparing stays = absurd run
-  stays_run old new (command ∷ commands) [] run sparing stays = absurd run
-  stays_run old new (command ∷ commands) (one ∷ others) (mid, tells, run) sparing stays = stays_run mid new commands others run sparing.1 (stays_told old mid command one tells sparing.0 stays)
-
 -- the line that is told of is planned for every process failed
-record IsLiveLine (machine : Machine) (line : List Choice) : Type 0 where
+pub record IsLiveLine (machine : Machine) (line : List Choice) : Type 0 where
   pub failed : List Bool
   pub all : IsEverybody (length machine.history) failed
   pub latest : IsLatest machine.history machine.marks failed line
 
-recovery_told : (old after : Machine) (failed : List Bool) (answer : Answer) (line : List Choice) → IsEverybody (length old.history) failed → Takes old (Recover failed) answer after → line_told answer ≡ Some line → IsLiveLine old line
+pub recovery_told : (old after : Machine) (failed : List Bool) (answer : Answer) (line : List Choice) → IsEverybody (length old.history) failed → Takes old (Recover failed) answer after → line_told answer ≡ Some line → IsLiveLine old line
 recovery_told old after failed (answers.Done (Recovered plan states incarnations)) line all takes is =
     let same : plan.value.line ≡ line = cc is in
     subst (IsLiveLine old) same (record { failed = failed; all = all; latest = takes.1.plan_is.latest })
@@ -299,16 +277,3 @@ recovery_told old after failed (answers.Done (Turned at check round)) line all t
 recovery_told old after failed (answers.Done (Damaged at check)) line all takes is = absurd takes.1
 recovery_told old after failed (answers.Done (Barred at check)) line all takes is = absurd takes.1
 recovery_told old after failed (answers.Refused e) line all takes is = cc is
-
-pub live_stays : (old mid new : Machine) (answer : Answer) (line : List Choice) (asked : List Command) (told : List CommandAnswer) (failed : List Bool) (later : Plan)
-    → Tells old commands.Live (Planned answer) mid → line_told answer ≡ Some line → TellsAll mid asked told new → AllByRecursion (SparesLine line) asked → IsPlan new failed later → IsNowhereLater line later.line
-live_stays old mid new answer line asked told failed later ((all, everybody, (after, takes)), same) is run sparing planned =
-    let live = recovery_told old after all answer line everybody takes is in
-    let indices : List ℕ = map index_of line in
-    let checks_are : check_line indices ≡ line = of_checks old.history old.marks live.failed live.all line live.latest in
-    let channels : ℕ → ℕ → List MsgName = in_transit_between old.history (check_line indices) in
-    let first : Stays old.history old.marks indices channels = stays_first old.history old.marks live.failed live.all line live.latest in
-    let at_mid : Stays mid.history mid.marks indices channels = subst (λ (m : Machine). Stays m.history m.marks indices channels) (sym same) first in
-    let spared : AllByRecursion (SparesLine (check_line indices)) asked = subst (λ (l : List Choice). AllByRecursion (SparesLine l) asked) (sym checks_are) sparing in
-    let last : Stays new.history new.marks indices channels = stays_run indices channels mid new asked told run spared at_mid in
-    subst (λ (l : List Choice). IsNowhereLater l later.line) checks_are (reached new.history new.marks failed later.line indices channels planned.latest last)

@@ -2,7 +2,7 @@
 use Rattle.std.proofs.Common.{◌≡◌, ℕ, List, ◌++◌, Bool, true, false, Option, length, map, refl, sym, ap, ◌∙◌, subst}
 use Rattle.line_check.specs.Answers.{replays_due, starts_due}
 use Rattle.line_claims.specs.Claims.{Claim}
-use Rattle.line_claims.specs.Records.{in_order, whole_answer_records}
+use Rattle.line_claims.specs.Records.{in_order, whole_claim}
 use Rattle.line_devices.specs.Devices.{PutsButEnd, PutsFront}
 use Rattle.line_fields.proofs.OutletLemmas.{one_text}
 use Rattle.line_fields.specs.Texts.{record_text, records_text}
@@ -24,7 +24,9 @@ use Rattle.line_world.specs.Machine.{Machine}
 use Rattle.line_world.specs.Refusals.{has_stranger, IsRefused}
 use Rattle.line_world.specs.Steps.{restarted_machine, IsPlan, Recovers}
 use Rattle.line_world.proofs.StepLemmas.{may_recover, Takes-refused}
-use Rattle.line_answers.specs.Answers.{CommandAnswer, Answered, Refused, Listing, Shown, Claimed, Planned, Judged, DoesCommand, DoesFront, IsEverybody, IsPlanToRecover, MayAnswer, Tells, is_refused}
+use Rattle.line_lives.specs.Lives.{whole_answer}
+use Rattle.line_live.specs.Lives.{LiveMachine}
+use Rattle.line_answers.specs.Answers.{CommandAnswer, Answered, Refused, Listing, Shown, Claimed, Planned, Judged, Forgot, Saved, DoesCommand, DoesFront, IsEverybody, IsPlanToRecover, LiveMayAnswer, MayAnswer, Tells, claimed_records, floors_gone, is_refused}
 use Rattle.line_answers.specs.Replies.{planned_records, refusal_record as refused_record}
 use Rattle.line_answers.proofs.AnswerLemmas.{does, does_front}
 
@@ -55,12 +57,16 @@ spent_refused machine failed plan known is spent = (
   ),
 )
 
+-- what is kept may answer a recovery so, and then the machine that lets go may, in names and numbers of the whole
+pub brought_back : (live : LiveMachine) (failed : List Bool) (told : Answer) → MayAnswer live.kept (Recover failed) told → LiveMayAnswer live (Recover failed) (whole_answer live.floor told)
+brought_back live failed told (after, takes) = (record { floor = live.floor; kept = after }, record { told = told; takes = takes; brought_back = refl; floor_is = refl })
+
 -- what a recovery would be answered was written
-pub planned_does : (old : Machine) (failed : List Bool) (answer : Answer) (taken now : Option (List ℕ)) (held later text : List ℕ) → MayAnswer old (Recover failed) answer → records_text (planned_records answer) ≡ text
+pub planned_does : (old : LiveMachine) (failed : List Bool) (answer : Answer) (taken now : Option (List ℕ)) (held later text : List ℕ) → LiveMayAnswer old (Recover failed) answer → records_text (planned_records answer) ≡ text
     → PutsButEnd taken now later (held ++ text) → DoesCommand old (commands.Plan failed) old taken now held later (is_refused (Planned answer))
 planned_does old failed answer taken now held later text may same put = does old old (commands.Plan failed) (Planned answer) taken now held later text (may, refl) same put
 
-pub planned_front : (old : Machine) (failed : List Bool) (answer : Answer) (taken now : Option (List ℕ)) (held text : List ℕ) → MayAnswer old (Recover failed) answer → records_text (planned_records answer) ≡ text
+pub planned_front : (old : LiveMachine) (failed : List Bool) (answer : Answer) (taken now : Option (List ℕ)) (held text : List ℕ) → LiveMayAnswer old (Recover failed) answer → records_text (planned_records answer) ≡ text
     → PutsFront taken now (held ++ text) → DoesFront old (commands.Plan failed) old taken now held
 planned_front old failed answer taken now held text may same put = does_front old old (commands.Plan failed) (Planned answer) taken now held text (may, refl) same put
 
@@ -69,20 +75,22 @@ pub refused_text : (error : StepError) (code : ℕ) → code ≡ refusal_code er
 refused_text error code same = one_text (refused_record (refusal_code error)) ∙ ap (λ (i : ℕ). record_text (refused_record i)) (sym same)
 
 -- what is told of everybody is what `live` is told
-pub tells_live : (old new : Machine) (failed : List Bool) (told : CommandAnswer) → IsEverybody (length old.history) failed → Tells old (commands.Plan failed) told new → Tells old commands.Live told new
+pub tells_live : (old new : LiveMachine) (failed : List Bool) (told : CommandAnswer) → IsEverybody (length old.kept.history) failed → Tells old (commands.Plan failed) told new → Tells old commands.Live told new
 tells_live old new failed (Planned answer) all tells = ((failed, all, tells.0), tells.1)
 tells_live old new failed (Answered answer) all tells = absurd tells
 tells_live old new failed (Refused code) all tells = absurd tells
-tells_live old new failed (Listing n rounds) all tells = absurd tells
-tells_live old new failed (Shown history) all tells = absurd tells
-tells_live old new failed (Claimed history claim) all tells = absurd tells
-tells_live old new failed (Judged history claim) all tells = absurd tells
+tells_live old new failed (Listing floor n rounds) all tells = absurd tells
+tells_live old new failed (Shown floors history) all tells = absurd tells
+tells_live old new failed (Claimed floors history claim) all tells = absurd tells
+tells_live old new failed (Judged floors history claim) all tells = absurd tells
+tells_live old new failed (Forgot round floors) all tells = absurd tells
+tells_live old new failed (Saved parts) all tells = absurd tells
 
-pub live_does : (old : Machine) (failed : List Bool) (taken now : Option (List ℕ)) (held later : List ℕ) (refused : Bool) → IsEverybody (length old.history) failed
+pub live_does : (old : LiveMachine) (failed : List Bool) (taken now : Option (List ℕ)) (held later : List ℕ) (refused : Bool) → IsEverybody (length old.kept.history) failed
     → DoesCommand old (commands.Plan failed) old taken now held later refused → DoesCommand old commands.Live old taken now held later refused
 live_does old failed taken now held later refused all h = record { told = h.told; tells = tells_live old old failed h.told all h.tells; counted = h.counted; put = h.put }
 
-pub live_front : (old : Machine) (failed : List Bool) (taken now : Option (List ℕ)) (held : List ℕ) → IsEverybody (length old.history) failed → DoesFront old (commands.Plan failed) old taken now held → DoesFront old commands.Live old taken now held
+pub live_front : (old : LiveMachine) (failed : List Bool) (taken now : Option (List ℕ)) (held : List ℕ) → IsEverybody (length old.kept.history) failed → DoesFront old (commands.Plan failed) old taken now held → DoesFront old commands.Live old taken now held
 live_front old failed taken now held all h = record { told = h.told; tells = tells_live old old failed h.told all h.tells; put = h.put }
 
 -- the whole claim of a plan, and of its refusal
@@ -96,31 +104,31 @@ whole_claim_of machine failed plan = record {
   replays = replays_due machine.history plan.line;
 }
 
-abbrev whole_text : Machine → List Bool → Plan → List ℕ
-whole_text machine failed plan = records_text (whole_answer_records machine.history (in_order machine.history machine.marks) failed plan.line plan.certificate.items)
+abbrev whole_text : LiveMachine → List Bool → Plan → List ℕ
+whole_text live failed plan = records_text (claimed_records 3 (floors_gone live) live.kept.history (whole_claim_of live.kept failed plan))
 
-pub judged_does : (old : Machine) (failed : List Bool) (plan : Plan) (taken now : Option (List ℕ)) (held later text : List ℕ) → IsPlanToRecover old failed plan → whole_text old failed plan ≡ text → PutsButEnd taken now later (held ++ text)
+pub judged_does : (old : LiveMachine) (failed : List Bool) (plan : Plan) (taken now : Option (List ℕ)) (held later text : List ℕ) → IsPlanToRecover old.kept failed plan → whole_text old failed plan ≡ text → PutsButEnd taken now later (held ++ text)
     → DoesCommand old (commands.Answer failed) old taken now held later false
 judged_does old failed plan taken now held later text is same put =
-    does old old (commands.Answer failed) (Judged old.history (whole_claim_of old failed plan)) taken now held later text (refl, record { plan = plan; planned = is; claim_is = refl }, refl) same put
+    does old old (commands.Answer failed) (Judged (floors_gone old) old.kept.history (whole_claim_of old.kept failed plan)) taken now held later text (refl, refl, record { plan = plan; planned = is; claim_is = refl }, refl) same put
 
-pub judged_front : (old : Machine) (failed : List Bool) (plan : Plan) (taken now : Option (List ℕ)) (held text : List ℕ) → IsPlanToRecover old failed plan → whole_text old failed plan ≡ text → PutsFront taken now (held ++ text)
+pub judged_front : (old : LiveMachine) (failed : List Bool) (plan : Plan) (taken now : Option (List ℕ)) (held text : List ℕ) → IsPlanToRecover old.kept failed plan → whole_text old failed plan ≡ text → PutsFront taken now (held ++ text)
     → DoesFront old (commands.Answer failed) old taken now held
 judged_front old failed plan taken now held text is same put =
-    does_front old old (commands.Answer failed) (Judged old.history (whole_claim_of old failed plan)) taken now held text (refl, record { plan = plan; planned = is; claim_is = refl }, refl) same put
+    does_front old old (commands.Answer failed) (Judged (floors_gone old) old.kept.history (whole_claim_of old.kept failed plan)) taken now held text (refl, refl, record { plan = plan; planned = is; claim_is = refl }, refl) same put
 
-pub unjudged_does : (old : Machine) (failed : List Bool) (error : StepError) (code : ℕ) (taken now : Option (List ℕ)) (held later : List ℕ) → MayAnswer old (Recover failed) (answers.Refused error) → code ≡ refusal_code error
+pub unjudged_does : (old : LiveMachine) (failed : List Bool) (error : StepError) (code : ℕ) (taken now : Option (List ℕ)) (held later : List ℕ) → LiveMayAnswer old (Recover failed) (answers.Refused error) → code ≡ refusal_code error
     → PutsButEnd taken now later (held ++ record_text (refused_record code)) → DoesCommand old (commands.Answer failed) old taken now held later true
 unjudged_does old failed error code taken now held later may same put =
     does old old (commands.Answer failed) (Planned (answers.Refused error)) taken now held later (record_text (refused_record code)) (may, refl) (refused_text error code same) put
 
-pub unjudged_front : (old : Machine) (failed : List Bool) (error : StepError) (code : ℕ) (taken now : Option (List ℕ)) (held : List ℕ) → MayAnswer old (Recover failed) (answers.Refused error) → code ≡ refusal_code error
+pub unjudged_front : (old : LiveMachine) (failed : List Bool) (error : StepError) (code : ℕ) (taken now : Option (List ℕ)) (held : List ℕ) → LiveMayAnswer old (Recover failed) (answers.Refused error) → code ≡ refusal_code error
     → PutsFront taken now (held ++ record_text (refused_record code)) → DoesFront old (commands.Answer failed) old taken now held
 unjudged_front old failed error code taken now held may same put =
     does_front old old (commands.Answer failed) (Planned (answers.Refused error)) taken now held (record_text (refused_record code)) (may, refl) (refused_text error code same) put
 
 -- the text of the whole claim, of what is lent of the machine and of the plan
-pub whole_text_of : (old : Machine) (failed : List Bool) (plan : Plan) (history : List Process) (marks : MarksView) (line : List Choice) (certificate : List Passed)
-    → history ≡ old.history → marks ≡ old.marks → line ≡ plan.line → certificate ≡ plan.certificate.items
-    → whole_text old failed plan ≡ records_text (whole_answer_records history (in_order history marks) failed line certificate)
-whole_text_of old failed plan history marks line certificate same_history same_marks same_line same_entries = rw (same_history, same_marks, same_line, same_entries) refl
+pub whole_text_of : (old : LiveMachine) (failed : List Bool) (plan : Plan) (marks : MarksView) (line : List Choice) (certificate : List Passed)
+    → marks ≡ old.kept.marks → line ≡ plan.line → certificate ≡ plan.certificate.items
+    → whole_text old failed plan ≡ records_text (claimed_records 3 (floors_gone old) old.kept.history (whole_claim old.kept.history (in_order old.kept.history marks) failed line certificate))
+whole_text_of old failed plan marks line certificate same_marks same_line same_entries = rw (same_marks, same_line, same_entries) refl

@@ -1,4 +1,5 @@
 pub mod Answers
 pub mod Live
+pub mod Openings
 pub mod Replies
 pub mod Rounds

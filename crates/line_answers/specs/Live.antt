@@ -23,7 +23,8 @@ IsSparing line (Damage at check) = choice_at line at ≢ AtCheck check
 IsSparing line (Bar at check) = IsNoLater (choice_at line at) (AtCheck check)
 IsSparing line step = Unit {0}
 
--- nor does a command, which asks for one step at most
+-- nor does a command, which asks for one step at most, and lets nothing go
 abbrev pub SparesLine : List Choice → Command → Type 0
 SparesLine line (commands.Do step) = IsSparing line step
+SparesLine line (commands.Forget round) = ⊥
 SparesLine line command = Unit {0}

@@ -5,16 +5,19 @@ ghost use Rattle.line_answers.specs.Answers as spec;
 ghost use Rattle.line_devices.specs.Devices.{one_more};
 ghost use Rattle.line_scripts.specs.Shown.{HasShortBodyInStep, command_of_ref};
 
+use crate::forgets::put_forgot;
 use crate::halts::Halt;
 use crate::listings::put_rounds;
 use crate::replies::{put_refusal, put_reply};
+use crate::saves::put_saved_machine;
+use crate::texts::{put_claimed, put_shown};
 use crate::views::{put_live, put_plan, put_whole_answer};
-use line_claims::{earliest_version, put_check_text, put_history};
+use line_claims::ClaimRef;
 use line_devices::Sink;
 use line_fields::{Fault, RecordWriter};
+use line_live::Live;
 use line_names::ProcSet;
 use line_scripts::{Command, CommandRef};
-use line_world::World;
 use std::alloc::Global;
 
 // Writes the check text of the machine's history, damage and bars, with the plan for these failed
@@ -22,31 +25,35 @@ use std::alloc::Global;
 #[inline(never)]
 fn bundle<K: Sink>(
     alloc: Global,
-    world: &World,
+    live: &Live,
     sink: &mut K,
     writer: &mut RecordWriter,
     failed: &ProcSet,
 ) -> Result<bool, Halt>
     ensures ok { IfOk result
-        (λ refused. spec.DoesCommand world.now (Command.Bundle failed.now) world.now
+        (λ refused. spec.DoesCommand live.now (Command.Bundle failed.now) live.now
         (K.taken sink.old)
         (K.taken sink.new) writer.old writer.new refused) }
     ensures memory { IfErr result
         (λ halt. halt ≡ Halt.Memory → (sink.new ≡ sink.old) × (writer.new ≡ writer.old)) }
     ensures write { IfErr result
         (λ halt. halt ≡ Halt.Write
-        → spec.DoesFront world.now (Command.Bundle failed.now) world.now (K.taken sink.old)
+        → spec.DoesFront live.now (Command.Bundle failed.now) live.now (K.taken sink.old)
         (K.taken sink.new) writer.old) }
     ensures sound { OnOk result (K.faults sink.new ≡ K.faults sink.old) }
     ensures failed { IfErr result
         (λ halt. halt ≡ Halt.Write → K.faults sink.new ≡ one_more (K.faults sink.old)) }
 {
+    let world = live.kept();
     match world.plan_for(alloc, failed) {
         Ok(plan) => {
-            let history = world.history();
-            let marks = world.marks();
-            let entries = plan.certificate.as_slice();
-            put_check_text(sink, writer, history, marks, failed, &plan.line, entries)?;
+            let claim = ClaimRef {
+                marks: world.marks(),
+                failed,
+                line: &plan.line,
+                certificate: plan.certificate.as_slice(),
+            };
+            put_claimed(sink, writer, live, &claim)?;
             Ok(false)
         }
         Err(error) => {
@@ -69,22 +76,22 @@ fn bundle<K: Sink>(
 #[inline(always)]
 pub fn do_command<K: Sink>(
     alloc: Global,
-    world: &mut World,
+    live: &mut Live,
     sink: &mut K,
     writer: &mut RecordWriter,
     command: &CommandRef<'_>,
 ) -> Result<bool, Halt>
     requires { HasShortBodyInStep command.now }
     ensures ok { IfOk result
-        (λ refused. spec.DoesCommand world.old (command_of_ref command.now) world.new
+        (λ refused. spec.DoesCommand live.old (command_of_ref command.now) live.new
         (K.taken sink.old)
         (K.taken sink.new) writer.old writer.new refused) }
     ensures memory { IfErr result
         (λ halt. halt ≡ Halt.Memory
-        → (world.new ≡ world.old) × (sink.new ≡ sink.old) × (writer.new ≡ writer.old)) }
+        → (live.new ≡ live.old) × (sink.new ≡ sink.old) × (writer.new ≡ writer.old)) }
     ensures write { IfErr result
         (λ halt. halt ≡ Halt.Write
-        → spec.DoesFront world.old (command_of_ref command.now) world.new (K.taken sink.old)
+        → spec.DoesFront live.old (command_of_ref command.now) live.new (K.taken sink.old)
         (K.taken sink.new) writer.old) }
     ensures sound { OnOk result (K.faults sink.new ≡ K.faults sink.old) }
     ensures failed { IfErr result
@@ -96,16 +103,22 @@ pub fn do_command<K: Sink>(
             Ok(true)
         }
         CommandRef::Rounds => {
-            put_rounds(sink, writer, world.history().n(), world.rounds())?;
+            let world = live.kept();
+            put_rounds(
+                sink,
+                writer,
+                live.floor(),
+                world.history().n(),
+                world.rounds(),
+            )?;
             Ok(false)
         }
         CommandRef::History => {
-            let history = world.history();
-            put_history(sink, writer, earliest_version(history.n()), history)?;
+            put_shown(sink, writer, live)?;
             Ok(false)
         }
-        CommandRef::Bundle(failed) => bundle(alloc, world, sink, writer, failed),
-        CommandRef::Do(step) => match world.step_lent(alloc, step) {
+        CommandRef::Bundle(failed) => bundle(alloc, live, sink, writer, failed),
+        CommandRef::Do(step) => match live.step_lent(alloc, step) {
             Ok(reply) => {
                 put_reply(sink, writer, &reply)?;
                 Ok(false)
@@ -118,8 +131,10 @@ pub fn do_command<K: Sink>(
                 Ok(true)
             }
         },
-        CommandRef::Plan(failed) => put_plan(alloc, world, sink, writer, failed),
-        CommandRef::Live => put_live(alloc, world, sink, writer),
-        CommandRef::Answer(failed) => put_whole_answer(alloc, world, sink, writer, failed),
+        CommandRef::Plan(failed) => put_plan(alloc, live, sink, writer, failed),
+        CommandRef::Live => put_live(alloc, live, sink, writer),
+        CommandRef::Answer(failed) => put_whole_answer(alloc, live, sink, writer, failed),
+        CommandRef::Forget(round) => put_forgot(alloc, live, sink, writer, *round),
+        CommandRef::Save => put_saved_machine(live, sink, writer),
     }
 }

@@ -3,15 +3,20 @@
 #![tactic(auto)]
 
 mod commands;
+mod forgets;
 mod halts;
 mod laws;
 mod listings;
+mod openings;
 mod replies;
 mod rounds;
+mod saves;
+mod texts;
 mod views;
 
 pub use commands::do_command;
 pub use halts::Halt;
 pub use laws::live_lines_stay;
+pub use openings::{OpenError, open_saved};
 pub use replies::{put_certificate, put_refusal, put_replays, put_reply, write_reply};
 pub use views::everybody;

@@ -10,6 +10,7 @@ ghost use Rattle.line_answers.specs.Rounds as records;
 use crate::rounds::{put_channel_message, put_round};
 use line_devices::{DeviceFault, Sink};
 use line_fields::{RecordWriter, put_numbers};
+use line_live::OwnedFloor;
 use line_names::{MOST_PROCESSES, MsgName, ProcId};
 use line_world::Round;
 
@@ -17,17 +18,19 @@ use line_world::Round;
 fn put_messages<K: Sink>(
     sink: &mut K,
     writer: &mut RecordWriter,
+    floor: &OwnedFloor,
     round: u32,
-    from: ProcId,
-    to: ProcId,
+    link: &(ProcId, ProcId),
     messages: &[MsgName],
 ) -> Result<(), DeviceFault>
     ensures { Outputs result (K.taken sink.old) (K.taken sink.new) (K.faults sink.old)
         (K.faults sink.new) writer.new
-        (writer.old ++ records_text (map (records.channel_record round from to) messages.now)) }
+        (writer.old
+        ++ records_text
+        (map (records.channel_record floor.now round link.now.0 link.now.1) messages.now)) }
 {
     for i in 0..messages.len() {
-        put_channel_message(sink, writer, round, from, to, messages[i])?;
+        put_channel_message(sink, writer, floor, round, link, messages[i])?;
     }
     Ok(())
 }
@@ -36,6 +39,7 @@ fn put_messages<K: Sink>(
 fn put_channels_from<K: Sink>(
     sink: &mut K,
     writer: &mut RecordWriter,
+    floor: &OwnedFloor,
     n: u32,
     round: &Round,
     from: ProcId,
@@ -45,7 +49,7 @@ fn put_channels_from<K: Sink>(
     requires from { from < n }
     ensures { Outputs result (K.taken sink.old) (K.taken sink.new) (K.faults sink.old)
         (K.faults sink.new) writer.new
-        (writer.old ++ records_text (records.channels_from n round.now from)) }
+        (writer.old ++ records_text (records.channels_from floor.now n round.now from)) }
 {
     let number = round.number();
     for value in 0..n {
@@ -54,7 +58,7 @@ fn put_channels_from<K: Sink>(
         };
         if value != from.get() {
             let messages = round.channel(from, to);
-            put_messages(sink, writer, number, from, to, messages)?;
+            put_messages(sink, writer, floor, number, &(from, to), messages)?;
         }
     }
     Ok(())
@@ -64,6 +68,7 @@ fn put_channels_from<K: Sink>(
 fn put_whole_round<K: Sink>(
     sink: &mut K,
     writer: &mut RecordWriter,
+    floor: &OwnedFloor,
     n: u32,
     round: &Round,
 ) -> Result<(), DeviceFault>
@@ -71,23 +76,25 @@ fn put_whole_round<K: Sink>(
     requires checks { length round.now.checks ≡ n }
     ensures { Outputs result (K.taken sink.old) (K.taken sink.new) (K.faults sink.old)
         (K.faults sink.new) writer.new
-        (writer.old ++ records_text (records.round_records n round.now)) }
+        (writer.old ++ records_text (records.round_records floor.now n round.now)) }
 {
-    put_round(sink, writer, n, round)?;
+    put_round(sink, writer, floor, n, round)?;
     for value in 0..n {
         let Ok(from) = ProcId::try_new(value, n) else {
             unreachable!()
         };
-        put_channels_from(sink, writer, n, round, from)?;
+        put_channels_from(sink, writer, floor, n, round, from)?;
     }
     Ok(())
 }
 
 /// Writes the rounds among `n` processes after what a writer holds: how many there are, and then of
-/// each its checks and the messages on its channels, by sender and receiver.
+/// each its checks and the messages on its channels, by sender and receiver. They are counted from
+/// the beginning, and the rounds are those of what this floor left.
 pub(crate) fn put_rounds<K: Sink>(
     sink: &mut K,
     writer: &mut RecordWriter,
+    floor: &OwnedFloor,
     n: u32,
     rounds: &[Round],
 ) -> Result<(), DeviceFault>
@@ -95,11 +102,11 @@ pub(crate) fn put_rounds<K: Sink>(
     requires checks { All (λ round. length round.checks ≡ n) rounds.now }
     ensures { Outputs result (K.taken sink.old) (K.taken sink.new) (K.faults sink.old)
         (K.faults sink.new) writer.new
-        (writer.old ++ records_text (records.rounds_records n rounds.now)) }
+        (writer.old ++ records_text (records.rounds_records floor.now n rounds.now)) }
 {
     put_numbers(sink, writer, b"rounds", &[rounds.len() as u64])?;
     for i in 0..rounds.len() {
-        put_whole_round(sink, writer, n, &rounds[i])?;
+        put_whole_round(sink, writer, floor, n, &rounds[i])?;
     }
     Ok(())
 }

@@ -8,6 +8,7 @@ ghost use Rattle.line_answers.specs.Rounds as spec;
 
 use line_devices::{DeviceFault, Sink};
 use line_fields::{Field, RecordWriter, add_field, begin_record, close_record, put_numbers};
+use line_live::OwnedFloor;
 use line_names::{MOST_PROCESSES, MsgName, ProcId};
 use line_world::Round;
 
@@ -18,13 +19,15 @@ use line_world::Round;
 pub(crate) fn put_round<K: Sink>(
     sink: &mut K,
     writer: &mut RecordWriter,
+    floor: &OwnedFloor,
     n: u32,
     round: &Round,
 ) -> Result<(), DeviceFault>
     requires few { n ≤ MOST_PROCESSES }
     requires checks { length round.now.checks ≡ n }
     ensures { Outputs result (K.taken sink.old) (K.taken sink.new) (K.faults sink.old)
-        (K.faults sink.new) writer.new (writer.old ++ record_text (spec.round_record n round.now)) }
+        (K.faults sink.new) writer.new
+        (writer.old ++ record_text (spec.round_record floor.now n round.now)) }
 {
     let number = round.number();
     begin_record(sink, writer, b"round", &[number as u64])?;
@@ -33,7 +36,8 @@ pub(crate) fn put_round<K: Sink>(
             unreachable!()
         };
         let check = round.check(p);
-        add_field(sink, writer, Field::Number(check as u64))?;
+        let lost = floor.checks_lost(p);
+        add_field(sink, writer, Field::Number(check as u64 + lost as u64))?;
     }
     close_record(sink, writer)
 }
@@ -45,23 +49,26 @@ pub(crate) fn put_round<K: Sink>(
 pub(crate) fn put_channel_message<K: Sink>(
     sink: &mut K,
     writer: &mut RecordWriter,
+    floor: &OwnedFloor,
     round: u32,
-    from: ProcId,
-    to: ProcId,
+    link: &(ProcId, ProcId),
     message: MsgName,
 ) -> Result<(), DeviceFault>
     ensures { Outputs result (K.taken sink.old) (K.taken sink.new) (K.faults sink.old)
         (K.faults sink.new) writer.new
-        (writer.old ++ record_text (spec.channel_record round from to message)) }
+        (writer.old
+        ++ record_text (spec.channel_record floor.now round link.now.0 link.now.1 message)) }
 {
+    let (from, to) = *link;
     let sender = from.get();
     let receiver = to.get();
+    let lost = floor.sends(from);
     let numbers = [
         round as u64,
         sender as u64,
         receiver as u64,
         message.inc as u64,
-        message.number as u64,
+        message.number as u64 + lost as u64,
     ];
     put_numbers(sink, writer, b"channel", &numbers)
 }

@@ -12,9 +12,11 @@ ghost use Rattle.line_world.specs.Steps.{IsPlan};
 
 use crate::halts::Halt;
 use crate::replies::{put_recovery, put_refusal};
-use line_claims::{ClaimRef, put_answer};
+use crate::texts::put_judged;
+use line_claims::ClaimRef;
 use line_devices::Sink;
 use line_fields::RecordWriter;
+use line_live::Live;
 use line_moves::{restarted_incarnations, restored_states};
 use line_names::{MOST_PROCESSES, ProcId, ProcSet};
 use line_plan::Plan;
@@ -80,6 +82,20 @@ fn recovery_for(alloc: Global, world: &World, failed: &ProcSet) -> Result<Recove
     })
 }
 
+// The same in names and numbers that are counted from the beginning.
+fn whole_recovery(alloc: Global, live: &Live, failed: &ProcSet) -> Result<Recovery, StepError>
+    ensures done { IfOk result
+        (λ told. spec.LiveMayAnswer live.now (Recover failed.now)
+        (Done (Recovered told.plan told.states told.incarnations))) }
+    ensures refused { IfErr result
+        (λ e. e ≢ StepError.OutOfMemory
+        → spec.LiveMayAnswer live.now (Recover failed.now) (Refused e)) }
+{
+    let mut told = recovery_for(alloc, live.kept(), failed)?;
+    live.bring_back(failed, &mut told.plan);
+    Ok(told)
+}
+
 /// Writes what a recovery would be answered if these processes failed now, after what a writer
 /// holds, and says whether it would be refused.
 ///
@@ -87,26 +103,26 @@ fn recovery_for(alloc: Global, world: &World, failed: &ProcSet) -> Result<Recove
 #[inline(never)]
 pub(crate) fn put_plan<K: Sink>(
     alloc: Global,
-    world: &World,
+    live: &Live,
     sink: &mut K,
     writer: &mut RecordWriter,
     failed: &ProcSet,
 ) -> Result<bool, Halt>
     ensures ok { IfOk result
-        (λ refused. spec.DoesCommand world.now (Command.Plan failed.now) world.now
+        (λ refused. spec.DoesCommand live.now (Command.Plan failed.now) live.now
         (K.taken sink.old)
         (K.taken sink.new) writer.old writer.new refused) }
     ensures memory { IfErr result
         (λ halt. halt ≡ Halt.Memory → (sink.new ≡ sink.old) × (writer.new ≡ writer.old)) }
     ensures write { IfErr result
         (λ halt. halt ≡ Halt.Write
-        → spec.DoesFront world.now (Command.Plan failed.now) world.now (K.taken sink.old)
+        → spec.DoesFront live.now (Command.Plan failed.now) live.now (K.taken sink.old)
         (K.taken sink.new) writer.old) }
     ensures sound { OnOk result (K.faults sink.new ≡ K.faults sink.old) }
     ensures failed { IfErr result
         (λ halt. halt ≡ Halt.Write → K.faults sink.new ≡ one_more (K.faults sink.old)) }
 {
-    match recovery_for(alloc, world, failed) {
+    match whole_recovery(alloc, live, failed) {
         Ok(told) => {
             let states = &told.states;
             put_recovery(
@@ -137,25 +153,26 @@ pub(crate) fn put_plan<K: Sink>(
 #[inline(never)]
 pub(crate) fn put_whole_answer<K: Sink>(
     alloc: Global,
-    world: &World,
+    live: &Live,
     sink: &mut K,
     writer: &mut RecordWriter,
     failed: &ProcSet,
 ) -> Result<bool, Halt>
     ensures ok { IfOk result
-        (λ refused. spec.DoesCommand world.now (Command.Answer failed.now) world.now
+        (λ refused. spec.DoesCommand live.now (Command.Answer failed.now) live.now
         (K.taken sink.old)
         (K.taken sink.new) writer.old writer.new refused) }
     ensures memory { IfErr result
         (λ halt. halt ≡ Halt.Memory → (sink.new ≡ sink.old) × (writer.new ≡ writer.old)) }
     ensures write { IfErr result
         (λ halt. halt ≡ Halt.Write
-        → spec.DoesFront world.now (Command.Answer failed.now) world.now (K.taken sink.old)
+        → spec.DoesFront live.now (Command.Answer failed.now) live.now (K.taken sink.old)
         (K.taken sink.new) writer.old) }
     ensures sound { OnOk result (K.faults sink.new ≡ K.faults sink.old) }
     ensures failed { IfErr result
         (λ halt. halt ≡ Halt.Write → K.faults sink.new ≡ one_more (K.faults sink.old)) }
 {
+    let world = live.kept();
     match plan_to_recover(alloc, world, failed) {
         Ok(plan) => {
             let claim = ClaimRef {
@@ -164,7 +181,7 @@ pub(crate) fn put_whole_answer<K: Sink>(
                 line: &plan.line,
                 certificate: plan.certificate.as_slice(),
             };
-            put_answer(sink, writer, world.history(), &claim)?;
+            put_judged(sink, writer, live, &claim)?;
             Ok(false)
         }
         Err(error) => {
@@ -196,24 +213,24 @@ pub fn everybody(n: u32) -> ProcSet
 #[inline(never)]
 pub(crate) fn put_live<K: Sink>(
     alloc: Global,
-    world: &World,
+    live: &Live,
     sink: &mut K,
     writer: &mut RecordWriter,
 ) -> Result<bool, Halt>
     ensures ok { IfOk result
-        (λ refused. spec.DoesCommand world.now Command.Live world.now
+        (λ refused. spec.DoesCommand live.now Command.Live live.now
         (K.taken sink.old)
         (K.taken sink.new) writer.old writer.new refused) }
     ensures memory { IfErr result
         (λ halt. halt ≡ Halt.Memory → (sink.new ≡ sink.old) × (writer.new ≡ writer.old)) }
     ensures write { IfErr result
         (λ halt. halt ≡ Halt.Write
-        → spec.DoesFront world.now Command.Live world.now (K.taken sink.old)
+        → spec.DoesFront live.now Command.Live live.now (K.taken sink.old)
         (K.taken sink.new) writer.old) }
     ensures sound { OnOk result (K.faults sink.new ≡ K.faults sink.old) }
     ensures failed { IfErr result
         (λ halt. halt ≡ Halt.Write → K.faults sink.new ≡ one_more (K.faults sink.old)) }
 {
-    let failed = everybody(world.history().n());
-    put_plan(alloc, world, sink, writer, &failed)
+    let failed = everybody(live.kept().history().n());
+    put_plan(alloc, live, sink, writer, &failed)
 }

@@ -1,5 +1,5 @@
 -- A script that is written is read again.
-use Rattle.std.proofs.Common.{◌≡◌, ◌≤◌, ◌<◌, ℕ, ◌+◌, ◌^◌, true, List, [], ◌∷◌, Bool, Ok, refl, arith, length, le-leb}
+use Rattle.std.proofs.Common.{◌≡◌, ◌≤◌, ◌<◌, ℕ, ◌+◌, ◌^◌, true, List, [], ◌∷◌, Bool, Some, None, Ok, refl, arith, length, le-leb}
 use Rattle.std.specs.Prelude.{codes, decimal, map}
 use Rattle.std.specs.List.{AllByRecursion, list_all}
 use Rattle.std.proofs.lemmas.Bool.{lt-ltb}
@@ -12,20 +12,21 @@ use Rattle.line_fields.specs.Texts.{hex_text, is_plain_field, is_written, record
 use Rattle.line_steps.specs.declared.modes.Mode.{Mode}
 use Rattle.line_steps.specs.declared.modes.Mode.TheVariants.{Fifo, Unordered}
 use Rattle.line_steps.specs.declared.steps.Step.TheVariants.{Send, Deliver, Check, Begin, Turn, Damage, Bar, Recover}
+use Rattle.line_tape.specs.declared.limits.TheConstants.{LAST_ROUND}
 use Rattle.line_claims.specs.declared.versions.TheConstants.{LAST_VERSION}
 use Rattle.line_claims.specs.Entries.{failed_of}
 use Rattle.line_claims.specs.Records.{members}
 use Rattle.line_claims.specs.Versions.{IsVersion, earliest_version, most_in}
 use Rattle.line_claims.proofs.ClaimWrittenLemmas.{decimals_are_plain}
 use Rattle.line_claims.proofs.EntryAgainLemmas.{failed_again, members_below}
-use Rattle.line_claims.proofs.SpellLemmas.{plain_again}
+use Rattle.line_claims.proofs.SpellLemmas.{plain_again, round_again}
 use Rattle.line_claims.proofs.VersionLemmas.{earliest_has_room, earliest_is_known}
 use Rattle.line_claims.proofs.WrittenLemmas.{byte_at}
 use Rattle.line_scripts.specs.declared.commands.Command.{Command}
-use Rattle.line_scripts.specs.declared.commands.Command.TheVariants.{Answer, Bundle, Do, History, Live, Plan, Refused, Rounds}
+use Rattle.line_scripts.specs.declared.commands.Command.TheVariants.{Answer, Bundle, Do, Forget, History, Live, Plan, Refused, Rounds, Save}
 use Rattle.line_scripts.specs.Ranges.{IsCommandInRange, IsScriptInRange, IsSetAmong, IsWithCheck, IsWithState}
 use Rattle.line_scripts.specs.Records.{command_record, mode_text, script_records, world_record}
-use Rattle.line_scripts.specs.Scripts.{Script, command_in, commands_from, deliver_of, mode_named, pick, script_of, script_of_text, send_of, with_check, with_failed, with_state, world_of}
+use Rattle.line_scripts.specs.Scripts.{Script, command_in, commands_from, deliver_of, forget_of, mode_named, pick, script_of, script_of_text, send_of, with_check, with_failed, with_state, world_of}
 use Rattle.line_scripts.proofs.FailedLemmas.{failed_found}
 
 mode_again : (mode : Mode) → mode_named (mode_text mode) ≡ Ok mode
@@ -48,7 +49,7 @@ unfolding failed_of
 failed_set n name command set few fit = failed_found command n (name ∷ map decimal (members n set)) set (failed_again n set few fit.whole fit.there)
 
 command_again : (n : ℕ) (c : Command) → n ≤ MOST_PROCESSES → IsCommandInRange n c → command_in n (command_record n c) ≡ Ok c
-unfolding command_in send_of deliver_of with_state with_check two three four alone
+unfolding command_in send_of deliver_of with_state with_check forget_of two three four alone
 command_again n (Do (Send from to body)) few fit =
     let there : from < n = fit.0 in
     let at : to < n = fit.1 in
@@ -81,6 +82,9 @@ command_again n (Bundle failed) few fit = failed_set n (codes "bundle") Bundle f
 command_again n (Plan failed) few fit = failed_set n (codes "plan") Plan failed few fit
 command_again n Live few fit = refl
 command_again n (Answer failed) few fit = failed_set n (codes "answer") Answer failed few fit
+command_again n (Forget None) few fit = refl
+command_again n (Forget (Some r)) few fit = rw (round_again r fit.0 fit.1) refl
+command_again n Save few fit = refl
 command_again n (Refused code) few fit = absurd fit
 
 commands_again : (n i : ℕ) (cs : List Command) → n ≤ MOST_PROCESSES → AllByRecursion (IsCommandInRange n) cs → commands_from n i (map (command_record n) cs) ≡ Ok cs
@@ -128,6 +132,11 @@ command_is_written n (Bundle failed) few fit = set_is_written n failed few
 command_is_written n (Plan failed) few fit = set_is_written n failed few
 command_is_written n Live few fit = refl
 command_is_written n (Answer failed) few fit = set_is_written n failed few
+command_is_written n (Forget None) few fit = refl
+command_is_written n (Forget (Some r)) few fit =
+    let high : r ≤ LAST_ROUND = fit.1 in
+    rw (plain_decimal r (omega arith)) refl
+command_is_written n Save few fit = refl
 command_is_written n (Refused code) few fit = absurd fit
 
 commands_are_written : (n : ℕ) (cs : List Command) → n ≤ MOST_PROCESSES → AllByRecursion (IsCommandInRange n) cs → list_all is_written (map (command_record n) cs) ≡ true

@@ -14,14 +14,14 @@ use Rattle.line_steps.specs.declared.steps.Step.{Step}
 use Rattle.line_steps.specs.declared.steps.Step.TheVariants.{Begin, Check, Damage, Bar, Recover, Turn}
 use Rattle.line_claims.specs.declared.faults.TextFault.{TextFault}
 use Rattle.line_claims.specs.declared.versions.TheConstants.{LAST_VERSION}
-use Rattle.line_claims.specs.Numbers.{numbers, plain}
+use Rattle.line_claims.specs.Numbers.{numbers, plain, round}
 use Rattle.line_claims.specs.Reads.{at_record}
 use Rattle.line_claims.specs.Versions.{most_in}
 use Rattle.line_scripts.specs.declared.commands.Command.{Command}
-use Rattle.line_scripts.specs.declared.commands.Command.TheVariants.{Answer, Bundle, Do, History, Live, Plan, Rounds}
+use Rattle.line_scripts.specs.declared.commands.Command.TheVariants.{Answer, Bundle, Do, Forget, History, Live, Plan, Rounds, Save}
 use Rattle.line_scripts.specs.Pieces.{begun_of, begun_on, with_commands}
 use Rattle.line_scripts.specs.Reads.{IsOfScript}
-use Rattle.line_scripts.specs.Scripts.{Script, command_in, commands_from, deliver_of, mode_named, pick, script_of, send_of, with_check, with_failed, with_state, world_of}
+use Rattle.line_scripts.specs.Scripts.{Script, command_in, commands_from, deliver_of, forget_of, mode_named, pick, script_of, send_of, with_check, with_failed, with_state, world_of}
 
 -- the fault of a record is one that scripts have
 abbrev IsLow : Fault → Type 0
@@ -135,6 +135,12 @@ failed_low : (command : List Bool → Command) (n : ℕ) (r : Record) → OnlyLo
 unfolding with_failed
 failed_low command n r = both_low (numbers (drop 1 r)) _ (numbers_low (drop 1 r)) (λ failed. tt)
 
+forget_low : (r : Record) → OnlyLow (forget_of r)
+unfolding forget_of
+forget_low r =
+    one_low (length r == 2) (round (field r 1) >>= λ number. Ok (Forget (Some number))) (alone (Forget None) r)
+    (both_low (round (field r 1)) _ (number_low 1 _ (field r 1)) (λ number. tt)) (alone_low (Forget None) r)
+
 command_low : (n : ℕ) (r : Record) → OnlyLow (command_in n r)
 unfolding command_in
 command_low n r =
@@ -151,7 +157,9 @@ command_low n r =
     (one_low (bytes_eq (field r 0) (codes "bundle")) (with_failed Bundle n r) _ (failed_low Bundle n r)
     (one_low (bytes_eq (field r 0) (codes "plan")) (with_failed Plan n r) _ (failed_low Plan n r)
     (one_low (bytes_eq (field r 0) (codes "live")) (alone Live r) _ (alone_low Live r)
-    (one_low (bytes_eq (field r 0) (codes "answer")) (with_failed Answer n r) (Err faults.BadRecord) (failed_low Answer n r) low_record)))))))))))))
+    (one_low (bytes_eq (field r 0) (codes "answer")) (with_failed Answer n r) _ (failed_low Answer n r)
+    (one_low (bytes_eq (field r 0) (codes "forget")) (forget_of r) _ (forget_low r)
+    (one_low (bytes_eq (field r 0) (codes "save")) (alone Save r) (Err faults.BadRecord) (alone_low Save r) low_record)))))))))))))))
 
 mode_low : (text : List ℕ) → OnlyLow (mode_named text)
 mode_low text =

@@ -31,6 +31,8 @@ named_otherwise n r other =
       other names.Plan,
       other names.Live,
       other names.Answer,
+      other names.Forget,
+      other names.Save,
     ) refl
 
 -- such a record spells no command

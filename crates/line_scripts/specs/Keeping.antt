@@ -7,7 +7,8 @@ use Rattle.line_steps.specs.declared.steps.Step.TheVariants.{Send, Deliver, Chec
 use Rattle.line_steps.specs.declared.steps.Step.TheVariants.{Damage, Bar, Recover}
 use Rattle.line_scripts.specs.declared.commands.Command.{Command}
 use Rattle.line_scripts.specs.declared.commands.Command.TheVariants.{Bundle, Do, History, Refused}
-use Rattle.line_scripts.specs.declared.commands.Command.TheVariants.{Answer, Live, Plan, Rounds}
+use Rattle.line_scripts.specs.declared.commands.Command.TheVariants.{Answer, Forget, Live, Plan}
+use Rattle.line_scripts.specs.declared.commands.Command.TheVariants.{Rounds, Save}
 use Rattle.line_scripts.specs.declared.keeping.Kept.{Kept}
 use Rattle.line_scripts.specs.declared.keeping.Kept.TheVariants as kepts
 use Rattle.line_scripts.specs.Scripts.{refused_command}
@@ -35,6 +36,8 @@ with_bytes (kepts.Bundle failed) bytes = Bundle failed.value
 with_bytes (kepts.Plan failed) bytes = Plan failed.value
 with_bytes kepts.Live bytes = Live
 with_bytes (kepts.Answer failed) bytes = Answer failed.value
+with_bytes (kepts.Forget round) bytes = Forget round
+with_bytes kepts.Save bytes = Save
 
 -- how many bytes it carries
 abbrev pub long_of : Kept → ℕ

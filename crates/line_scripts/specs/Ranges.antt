@@ -5,10 +5,11 @@ use Rattle.line_names.specs.declared.limits.TheConstants.{MOST_BODY, MOST_PROCES
 use Rattle.line_names.specs.Sets.{is_member}
 use Rattle.line_steps.specs.declared.steps.Step.TheVariants.{Send, Deliver, Check, Begin, Turn}
 use Rattle.line_steps.specs.declared.steps.Step.TheVariants.{Damage, Bar, Recover}
-use Rattle.line_claims.specs.Ranges.{AreBytes}
+use Rattle.line_claims.specs.Ranges.{AreBytes, IsRoundNumber}
 use Rattle.line_scripts.specs.declared.commands.Command.{Command}
 use Rattle.line_scripts.specs.declared.commands.Command.TheVariants.{Bundle, Do, History, Refused}
-use Rattle.line_scripts.specs.declared.commands.Command.TheVariants.{Answer, Live, Plan, Rounds}
+use Rattle.line_scripts.specs.declared.commands.Command.TheVariants.{Answer, Forget, Live, Plan}
+use Rattle.line_scripts.specs.declared.commands.Command.TheVariants.{Rounds, Save}
 use Rattle.line_scripts.specs.Scripts.{Script}
 
 -- a set of processes, of the first n
@@ -41,6 +42,8 @@ IsCommandInRange n (Bundle failed) = IsSetAmong n failed
 IsCommandInRange n (Plan failed) = IsSetAmong n failed
 IsCommandInRange n Live = Unit {0}
 IsCommandInRange n (Answer failed) = IsSetAmong n failed
+IsCommandInRange n (Forget round) = IsRoundNumber round
+IsCommandInRange n Save = Unit {0}
 IsCommandInRange n (Refused code) = ⊥
 
 -- a script

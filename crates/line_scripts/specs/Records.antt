@@ -1,5 +1,5 @@
 -- How scripts are written, record by record.
-use Rattle.std.specs.Prelude.{◌≡◌, ℕ, List, [], ◌∷◌, map, Ok, codes, decimal}
+use Rattle.std.specs.Prelude.{◌≡◌, ℕ, List, [], ◌∷◌, map, Option, Some, None, Ok, codes, decimal}
 use Rattle.line_fields.specs.Records.{Record}
 use Rattle.line_fields.specs.Texts.{hex_text}
 use Rattle.line_steps.specs.declared.modes.Mode.{Mode}
@@ -12,7 +12,8 @@ use Rattle.line_claims.specs.Texts.{records_in}
 use Rattle.line_claims.specs.Versions.{earliest_version}
 use Rattle.line_scripts.specs.declared.commands.Command.{Command}
 use Rattle.line_scripts.specs.declared.commands.Command.TheVariants.{Bundle, Do, History, Refused}
-use Rattle.line_scripts.specs.declared.commands.Command.TheVariants.{Answer, Live, Plan, Rounds}
+use Rattle.line_scripts.specs.declared.commands.Command.TheVariants.{Answer, Forget, Live, Plan}
+use Rattle.line_scripts.specs.declared.commands.Command.TheVariants.{Rounds, Save}
 use Rattle.line_scripts.specs.Scripts.{Script}
 
 -- how links deliver
@@ -42,6 +43,9 @@ command_record n (Bundle failed) = codes "bundle" ∷ map decimal (members n fai
 command_record n (Plan failed) = codes "plan" ∷ map decimal (members n failed)
 command_record n Live = codes "live" ∷ []
 command_record n (Answer failed) = codes "answer" ∷ map decimal (members n failed)
+command_record n (Forget None) = codes "forget" ∷ []
+command_record n (Forget (Some round)) = codes "forget" ∷ decimal round ∷ []
+command_record n Save = codes "save" ∷ []
 command_record n (Refused code) = []
 
 -- a script, in the earliest version that has room for its processes

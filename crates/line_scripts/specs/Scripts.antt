@@ -1,6 +1,6 @@
 -- Which script a list of records spells, and the first fault where it spells none.
 use Rattle.std.specs.Prelude.{ℕ, ◌+◌, nat_le, nat_lt, ◌==◌, ◌&&◌, Bool, List, [], ◌∷◌, drop, fold}
-use Rattle.std.specs.Prelude.{length, Result, Ok, Err, if◌then◌else◌, codes}
+use Rattle.std.specs.Prelude.{length, Option, Some, None, Result, Ok, Err, if◌then◌else◌, codes}
 use Rattle.std.specs.Str.{bytes_eq}
 use Rattle.std.specs.List.{list_all}
 use Rattle.line_names.specs.declared.limits.TheConstants.{MOST_BODY}
@@ -18,10 +18,11 @@ use Rattle.line_steps.specs.declared.steps.Step.TheVariants.{Send, Deliver, Chec
 use Rattle.line_steps.specs.declared.steps.Step.TheVariants.{Damage, Bar, Recover}
 use Rattle.line_scripts.specs.declared.commands.Command.{Command}
 use Rattle.line_scripts.specs.declared.commands.Command.TheVariants.{Bundle, Do, History, Refused}
-use Rattle.line_scripts.specs.declared.commands.Command.TheVariants.{Answer, Live, Plan, Rounds}
+use Rattle.line_scripts.specs.declared.commands.Command.TheVariants.{Answer, Forget, Live, Plan}
+use Rattle.line_scripts.specs.declared.commands.Command.TheVariants.{Rounds, Save}
 use Rattle.line_claims.specs.declared.faults.TextFault.{TextFault}
 use Rattle.line_claims.specs.declared.versions.TheConstants.{LAST_VERSION}
-use Rattle.line_claims.specs.Numbers.{numbers, plain}
+use Rattle.line_claims.specs.Numbers.{numbers, plain, round}
 use Rattle.line_claims.specs.Reads.{fault_of_record, at_record}
 use Rattle.line_claims.specs.Texts.{records_in}
 use Rattle.line_claims.specs.Versions.{most_in}
@@ -89,6 +90,12 @@ unfoldable pub with_failed : (List Bool → Command) → ℕ → Record → Resu
 with_failed command n r =
     numbers (drop 1 r) >>= λ failed. Ok (below n failed (command (fold with_member nobody failed)))
 
+-- forget or forget,R: a command of no round, or of one
+unfoldable pub forget_of : Record → Result Command Fault
+forget_of r =
+    if length r == 2 then (round (field r 1) >>= λ number. Ok (Forget (Some number)))
+    else alone (Forget None) r
+
 -- the command that a record spells, among n processes: the first field is its name
 unfoldable pub command_in : ℕ → Record → Result Command Fault
 command_in n r =
@@ -107,6 +114,8 @@ command_in n r =
     else if bytes_eq (field r 0) (codes "plan") then with_failed Plan n r
     else if bytes_eq (field r 0) (codes "live") then alone Live r
     else if bytes_eq (field r 0) (codes "answer") then with_failed Answer n r
+    else if bytes_eq (field r 0) (codes "forget") then forget_of r
+    else if bytes_eq (field r 0) (codes "save") then alone Save r
     else Err faults.BadRecord
 
 -- the commands of the records from the i-th on

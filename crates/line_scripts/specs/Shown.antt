@@ -2,7 +2,8 @@
 use Rattle.line_steps.specs.Shown as steps
 use Rattle.line_scripts.specs.declared.commands.Command.{Command}
 use Rattle.line_scripts.specs.declared.commands.Command.TheVariants.{Bundle, Do, History, Refused}
-use Rattle.line_scripts.specs.declared.commands.Command.TheVariants.{Answer, Live, Plan, Rounds}
+use Rattle.line_scripts.specs.declared.commands.Command.TheVariants.{Answer, Forget, Live, Plan}
+use Rattle.line_scripts.specs.declared.commands.Command.TheVariants.{Rounds, Save}
 use Rattle.line_scripts.specs.declared.commands.CommandRef.{CommandRef}
 use Rattle.line_scripts.specs.declared.commands.CommandRef.TheVariants as lent
 
@@ -15,6 +16,8 @@ command_of_ref (lent.Bundle failed) = Bundle failed.now
 command_of_ref (lent.Plan failed) = Plan failed.now
 command_of_ref lent.Live = Live
 command_of_ref (lent.Answer failed) = Answer failed.now
+command_of_ref (lent.Forget round) = Forget round
+command_of_ref lent.Save = Save
 command_of_ref (lent.Refused code) = Refused code
 
 -- the bytes lent as the body of a message are no more than a body has
@@ -26,4 +29,6 @@ HasShortBodyInStep (lent.Bundle failed) = Unit {0}
 HasShortBodyInStep (lent.Plan failed) = Unit {0}
 HasShortBodyInStep lent.Live = Unit {0}
 HasShortBodyInStep (lent.Answer failed) = Unit {0}
+HasShortBodyInStep (lent.Forget round) = Unit {0}
+HasShortBodyInStep lent.Save = Unit {0}
 HasShortBodyInStep (lent.Refused code) = Unit {0}

@@ -7,10 +7,11 @@ ghost use Rattle.line_scripts.specs.Keeping.{HasShortMessage, behind, long_of};
 ghost use Rattle.line_scripts.specs.Keeping.{with_bytes};
 ghost use Rattle.line_scripts.specs.Scripts as spec;
 
+use crate::alone::{kept_history, kept_live, kept_rounds, kept_save};
 use crate::keeping::Kept;
 use crate::kinds::{
     deliver_of, kept_answer, kept_bar, kept_begin, kept_bundle, kept_checkpoint, kept_damage,
-    kept_history, kept_live, kept_plan, kept_recover, kept_rounds, kept_turn, send_of,
+    kept_forget, kept_plan, kept_recover, kept_turn, send_of,
 };
 use crate::names::{Name, name_in};
 use line_claims::{LAST_VERSION, most_in, plain, want};
@@ -39,6 +40,11 @@ pub enum Command {
     /// A check text of the machine's history, damage and bars, with all that a recovery would be
     /// answered if these processes failed now.
     Answer(ProcSet),
+    /// That what stands before this listed round is let go, or without one what stands before the
+    /// line that all would go back to if every process failed.
+    Forget(Option<u32>),
+    /// The machine as a saved text, from which it is opened again. Nothing changes.
+    Save,
     /// Nothing: a process isn't below the number of processes, or a body is too long. The number of
     /// the refusal tells which.
     Refused(u32),
@@ -65,6 +71,11 @@ pub enum CommandRef<'a> {
     /// A check text of the machine's history, damage and bars, with all that a recovery would be
     /// answered if these processes failed now.
     Answer(&'a ProcSet),
+    /// That what stands before this listed round is let go, or without one what stands before the
+    /// line that all would go back to if every process failed.
+    Forget(Option<u32>),
+    /// The machine as a saved text, from which it is opened again. Nothing changes.
+    Save,
     /// Nothing: a process isn't below the number of processes, or a body is too long. The number of
     /// the refusal tells which.
     Refused(u32),
@@ -135,5 +146,7 @@ pub(crate) fn command_in(
         Name::Plan => kept_plan(alloc, n, row),
         Name::Live => kept_live(row),
         Name::Answer => kept_answer(alloc, n, row),
+        Name::Forget => kept_forget(row),
+        Name::Save => kept_save(row),
     }
 }

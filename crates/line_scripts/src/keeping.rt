@@ -61,6 +61,8 @@ pub(crate) enum Kept {
     Plan(Box<ProcSet>),
     Live,
     Answer(Box<ProcSet>),
+    Forget(Option<u32>),
+    Save,
 }
 
 const _: () = prove!(size_of::<Kept>() == 16);
@@ -113,6 +115,8 @@ pub(crate) fn long_of(kept: &Kept) -> usize
         Kept::Plan(_) => 0,
         Kept::Live => 0,
         Kept::Answer(_) => 0,
+        Kept::Forget(_) => 0,
+        Kept::Save => 0,
     }
 }
 
@@ -170,5 +174,7 @@ pub(crate) fn lent<'a>(kept: &'a Kept, own: &'a [u8]) -> CommandRef<'a>
         Kept::Plan(failed) => CommandRef::Plan(failed),
         Kept::Live => CommandRef::Live,
         Kept::Answer(failed) => CommandRef::Answer(failed),
+        Kept::Forget(round) => CommandRef::Forget(*round),
+        Kept::Save => CommandRef::Save,
     }
 }

@@ -13,7 +13,7 @@ ghost use Rattle.line_scripts.specs.Keeping.{with_bytes};
 ghost use Rattle.line_scripts.specs.Scripts as spec;
 
 use crate::keeping::{Far, Kept, in_byte};
-use line_claims::{failed_of, plain, want};
+use line_claims::{failed_of, plain, round, want};
 use line_fields::{Fault, FieldRow, ReadError, hex_behind, number};
 use line_names::{MOST_BODY, ProcId, ProcSet};
 use std::alloc::{AllocError, Global};
@@ -341,41 +341,19 @@ pub(crate) fn kept_answer(alloc: Global, n: u32, row: &FieldRow<'_>) -> Result<K
     }
 }
 
-/// The command of a `rounds` record, which has no other field.
+/// The command of a `forget` record, which has no other field or the number of a round.
 #[inline(never)]
-#[tactic(auto, unfolding(line_fields::specs::Shapes::alone))]
-pub(crate) fn kept_rounds(row: &FieldRow<'_>) -> Result<Kept, ReadError>
+#[tactic(auto, unfolding(crate::specs::Scripts::forget_of, line_fields::specs::Shapes::alone))]
+pub(crate) fn kept_forget(row: &FieldRow<'_>) -> Result<Kept, ReadError>
     ensures exact { (bytes : List ℕ) → Gives (λ kept. with_bytes kept bytes) result
-        (alone Command.Rounds row.now) }
+        (spec.forget_of row.now) }
     ensures long { IfOk result (λ kept. long_of kept ≡ 0) }
     ensures short { IfOk result HasShortMessage }
 {
+    if row.len() == 2 {
+        let number = round(row, 1)?;
+        return Ok(Kept::Forget(Some(number)));
+    }
     want(row.len() == 1, Fault::BadRecord)?;
-    Ok(Kept::Rounds)
-}
-
-/// The command of a `history` record, which has no other field.
-#[inline(never)]
-#[tactic(auto, unfolding(line_fields::specs::Shapes::alone))]
-pub(crate) fn kept_history(row: &FieldRow<'_>) -> Result<Kept, ReadError>
-    ensures exact { (bytes : List ℕ) → Gives (λ kept. with_bytes kept bytes) result
-        (alone Command.History row.now) }
-    ensures long { IfOk result (λ kept. long_of kept ≡ 0) }
-    ensures short { IfOk result HasShortMessage }
-{
-    want(row.len() == 1, Fault::BadRecord)?;
-    Ok(Kept::History)
-}
-
-/// The command of a `live` record, which has no other field.
-#[inline(never)]
-#[tactic(auto, unfolding(line_fields::specs::Shapes::alone))]
-pub(crate) fn kept_live(row: &FieldRow<'_>) -> Result<Kept, ReadError>
-    ensures exact { (bytes : List ℕ) → Gives (λ kept. with_bytes kept bytes) result
-        (alone Command.Live row.now) }
-    ensures long { IfOk result (λ kept. long_of kept ≡ 0) }
-    ensures short { IfOk result HasShortMessage }
-{
-    want(row.len() == 1, Fault::BadRecord)?;
-    Ok(Kept::Live)
+    Ok(Kept::Forget(None))
 }

@@ -1,6 +1,7 @@
 //! Scripts: the commands that the records of a text spell, or its first fault.
 #![tactic(auto)]
 
+mod alone;
 mod blocks;
 mod commands;
 mod keeping;

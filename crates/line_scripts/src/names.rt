@@ -21,6 +21,8 @@ pub(crate) enum Name {
     Plan,
     Live,
     Answer,
+    Forget,
+    Save,
 }
 
 /// The name that a field spells, if it spells one. It is put into its caller, where each name then
@@ -45,6 +47,8 @@ pub(crate) fn name_in(field: &[u8]) -> Option<Name>
         b"plan" => Some(Name::Plan),
         b"live" => Some(Name::Live),
         b"answer" => Some(Name::Answer),
+        b"forget" => Some(Name::Forget),
+        b"save" => Some(Name::Save),
         _ => None,
     }
 }

@@ -129,6 +129,8 @@ fn all_of(alloc: Global, mut commands: Commands) -> Result<Vec<Command>, AllocEr
             CommandRef::Plan(failed) => Command::Plan(*failed),
             CommandRef::Live => Command::Live,
             CommandRef::Answer(failed) => Command::Answer(*failed),
+            CommandRef::Forget(round) => Command::Forget(round),
+            CommandRef::Save => Command::Save,
             CommandRef::Refused(code) => Command::Refused(code),
         };
         all.push(own)?;

@@ -1,14 +1,15 @@
 -- Texts that spell the same are told the same.
-use Rattle.std.proofs.Common.{◌≡◌, ◌≢◌, ℕ, List, ◌++◌, Option, Ok, Err, sym, ◌∙◌}
+use Rattle.std.proofs.Common.{◌≡◌, ◌≢◌, ℕ, List, [], ◌∷◌, ◌++◌, Option, Some, None, Ok, Err, sym, subst, ◌∙◌}
 use Rattle.std.specs.Prelude.{◌↔◌, codes}
 use Rattle.line_fields.specs.declared.faults.Fault.TheVariants.{BadCount}
+use Rattle.line_check.specs.declared.answers.Start.{Start}
 use Rattle.line_check.specs.declared.faults.CertFault.{CertFault}
 use Rattle.line_claims.specs.Reads.{fault_of_record}
 use Rattle.line_claims.specs.Texts.{Check, check_of_text}
 use Rattle.line_scripts.specs.Scripts.{script_of_text}
 use Rattle.line_scripts.specs.Records.{DifferInVersion}
 use Rattle.line_scripts.proofs.LaterLemmas.{same_as_spelled, same_text}
-use Rattle.line_text.specs.Judgings.{JudgesText, JudgesTextFront}
+use Rattle.line_text.specs.Judgings.{IsValid, IsVerdict, IsVerdictOn, JudgesText, JudgesTextFront}
 use Rattle.line_text.specs.Runs.{RunsText, RunsTextFront, StopsText}
 
 runs_other : (text other : List ℕ) (refused : ℕ) (old new : Option (List ℕ)) → script_of_text other ≡ script_of_text text → RunsText text refused old new → RunsText other refused old new
@@ -66,3 +67,24 @@ judged_alike text later verdict old new same h = record { check = h.check; spelt
 pub judged_front_alike : (text later : List ℕ) (old new : Option (List ℕ)) → ((check : Check) → check_of_text text ≡ Ok check → check_of_text later ≡ Ok check)
     → JudgesTextFront text old new → JudgesTextFront later old new
 judged_front_alike text later old new same h = record { check = h.check; verdict = h.verdict; spelt = same h.check h.spelt; judged = h.judged; put = h.put }
+
+-- what was let go is no part of a verdict
+valid_with : (check : Check) (floors : List (ℕ × ℕ)) → IsValid check → IsValid (record check { floors = floors })
+valid_with check floors h = record { shape = h.shape; chain = h.chain; latest = h.latest }
+
+verdict_with : (starts : List Start) (check : Check) (floors : List (ℕ × ℕ)) (verdict : Option CertFault) → IsVerdictOn starts check verdict → IsVerdictOn starts (record check { floors = floors }) verdict
+verdict_with [] check floors None h = valid_with check floors h
+verdict_with [] check floors (Some fault) h = h
+verdict_with (start ∷ others) check floors None h = (valid_with check floors h.0, h.1)
+verdict_with (start ∷ others) check floors (Some fault) h = h
+
+verdict_on : (one two : Check) (verdict : Option CertFault) → two.history ≡ one.history → two.claim ≡ one.claim → IsVerdict one verdict → IsVerdict two verdict
+verdict_on one two verdict history claim h = rw (history, claim) (verdict_with one.claim.starts one two.floors verdict h)
+
+-- the verdict on a text is the verdict on another, which spells the same history and claim
+pub judged_the_same : (text later : List ℕ) (one two : Check) (verdict : Option CertFault) (old new : Option (List ℕ)) → check_of_text text ≡ Ok one → check_of_text later ≡ Ok two → two.history ≡ one.history → two.claim ≡ one.claim
+    → JudgesText text verdict old new → JudgesText later verdict old new
+judged_the_same text later one two verdict old new first second history claim h =
+    let told : Ok h.check ≡ Ok one = sym h.spelt ∙ first in
+    let same : h.check ≡ one = cc told in
+    record { check = two; spelt = second; judged = verdict_on one two verdict history claim (subst (λ (check : Check). IsVerdict check verdict) same h.judged); put = h.put }

@@ -5,7 +5,7 @@ use Rattle.std.proofs.lemmas.List.{append-nil, drop_more, length-drop, take_more
 use Rattle.line_claims.specs.declared.faults.TextFault.{TextFault}
 use Rattle.line_claims.specs.Reads.{IsOfText, no_memory}
 use Rattle.line_fields.specs.Texts.{records_text}
-use Rattle.line_world.specs.Machine.{Machine}
+use Rattle.line_live.specs.Lives.{LiveMachine}
 use Rattle.line_scripts.specs.declared.commands.Command.{Command}
 use Rattle.line_devices.specs.Devices.{Puts, PutsButEnd, PutsFront}
 use Rattle.line_devices.proofs.PutLemmas.{front_of_front, holds_all, holds_more, puts_front_of_held, puts_of_held}
@@ -16,7 +16,7 @@ use Rattle.line_scripts.specs.Scripts.{Script, script_of_text}
 use Rattle.std.proofs.Math.Seq.{take-add}
 
 -- commands that stopped, of whose text a front was put
-pub stops_front : (first : Machine) (commands : List Command) (i : ℕ) (old new : Option (List ℕ)) → StopsAt first commands i (λ text. PutsFront old new text) → RunsFront first commands old new
+pub stops_front : (first : LiveMachine) (commands : List Command) (i : ℕ) (old new : Option (List ℕ)) → StopsAt first commands i (λ text. PutsFront old new text) → RunsFront first commands old new
 stops_front first commands i old new h =
     let more : List CommandAnswer = h.next.told in
     let all : List CommandAnswer = h.told ++ more in
@@ -33,7 +33,7 @@ stops_front first commands i old new h =
     }
 
 -- the text of commands that stopped, seen otherwise
-pub stops_with : (first : Machine) (commands : List Command) (i : ℕ) (P Q : List ℕ → Type 0) → ((text : List ℕ) → P text → Q text) → StopsAt first commands i P → StopsAt first commands i Q
+pub stops_with : (first : LiveMachine) (commands : List Command) (i : ℕ) (P Q : List ℕ → Type 0) → ((text : List ℕ) → P text → Q text) → StopsAt first commands i P → StopsAt first commands i Q
 stops_with first commands i P Q f h = record { done = h.done; told = h.told; end = h.end; own = h.own; at = h.at; there = h.there; run = h.run; next = h.next; text = f (text_of h.told ++ h.own) h.text }
 
 -- the first of the commands that are left
@@ -49,14 +49,14 @@ pub none_left : (all left : List Command) (i : ℕ) → left ≡ drop i all → 
 none_left all left i is none le = let parts : drop i all ≡ [] = sym is ∙ none in omega (arith, le, length-drop i all, ap length parts)
 
 -- none is left: the run is whole
-pub run_whole : (first mid later : Machine) (all left : List Command) (i : ℕ) (refused count : ℕ) (old now new : Option (List ℕ)) (held kept : List ℕ) → left ≡ drop i all → left ≡ [] → i ≤ length all
+pub run_whole : (first mid later : LiveMachine) (all left : List Command) (i : ℕ) (refused count : ℕ) (old now new : Option (List ℕ)) (held kept : List ℕ) → left ≡ drop i all → left ≡ [] → i ≤ length all
     → IsRunTo first all i mid refused old now held → later ≡ mid → new ≡ now → kept ≡ held → count ≡ refused → IsRunTo first all (length all) later count old new kept
 run_whole first mid later all left i refused count old now new held kept is none le run same_machine same_taken same_held same_count =
     let whole : i ≡ length all = none_left all left i is none le in
     rw (same_machine, same_taken, same_held, same_count) (subst (λ (d : ℕ). IsRunTo first all d mid refused old now held) whole run)
 
 -- no command was done yet
-pub starts : (first : Machine) (commands : List Command) (taken : Option (List ℕ)) (held : List ℕ) → held ≡ [] → IsRunTo first commands 0 first 0 taken taken held
+pub starts : (first : LiveMachine) (commands : List Command) (taken : Option (List ℕ)) (held : List ℕ) → held ≡ [] → IsRunTo first commands 0 first 0 taken taken held
 starts first commands taken held none = record {
   told = [];
   run = refl;
@@ -66,7 +66,7 @@ starts first commands taken held none = record {
 }
 
 -- one command more was done
-pub does_on : (first mid later : Machine) (commands : List Command) (i : ℕ) (command : Command) (refused count : ℕ) (old now new : Option (List ℕ)) (held kept : List ℕ) → i < length commands → command ≡ get_or commands i command
+pub does_on : (first mid later : LiveMachine) (commands : List Command) (i : ℕ) (command : Command) (refused count : ℕ) (old now new : Option (List ℕ)) (held kept : List ℕ) → i < length commands → command ≡ get_or commands i command
     → IsRunTo first commands i mid refused old now held → DoesOne mid command later now new held refused kept count → IsRunTo first commands (i + 1) later count old new kept
 does_on first mid later commands i command refused count old now new held kept lt is before did =
     let one : CommandAnswer = did.does.told in
@@ -85,7 +85,7 @@ does_on first mid later commands i command refused count old now new held kept l
     }
 
 -- one command more was done, and the sink failed at what it was told
-pub front_in : (first mid later : Machine) (commands : List Command) (i : ℕ) (command : Command) (refused : ℕ) (old now new : Option (List ℕ)) (held : List ℕ) → i < length commands → command ≡ get_or commands i command
+pub front_in : (first mid later : LiveMachine) (commands : List Command) (i : ℕ) (command : Command) (refused : ℕ) (old now new : Option (List ℕ)) (held : List ℕ) → i < length commands → command ≡ get_or commands i command
     → IsRunTo first commands i mid refused old now held → DoesFront mid command later now new held → RunsFront first commands old new
 front_in first mid later commands i command refused old now new held lt is before did =
     let one : CommandAnswer = did.told in
@@ -103,7 +103,7 @@ front_in first mid later commands i command refused old now new held lt is befor
     }
 
 -- memory did not suffice for a command, and nothing of it was put
-pub stops_in : (first mid : Machine) (commands : List Command) (i refused : ℕ) (old now new : Option (List ℕ)) (held later : List ℕ) → i < length commands → new ≡ now → later ≡ held
+pub stops_in : (first mid : LiveMachine) (commands : List Command) (i refused : ℕ) (old now new : Option (List ℕ)) (held later : List ℕ) → i < length commands → new ≡ now → later ≡ held
     → IsRunTo first commands i mid refused old now held → StopsAt first commands (i + 2) (λ text. PutsButEnd old new later text)
 stops_in first mid commands i refused old now new held later lt same_taken same_held before = record {
   done = i;
@@ -118,28 +118,28 @@ stops_in first mid commands i refused old now new held later lt same_taken same_
 }
 
 -- commands that are those of a script, on the machine that it begins with
-pub runs_text : (text : List ℕ) (script : Script) (first : Machine) (commands : List Command) (refused : ℕ) (old new : Option (List ℕ)) → script_of_text text ≡ Ok script → first ≡ first_of script → commands ≡ script.commands
+pub runs_text : (text : List ℕ) (script : Script) (first : LiveMachine) (commands : List Command) (refused : ℕ) (old new : Option (List ℕ)) → script_of_text text ≡ Ok script → first ≡ first_of script → commands ≡ script.commands
     → Runs first commands refused old new → RunsText text refused old new
 runs_text text script first commands refused old new spelt start all runs = record {
   script = script;
   spelt = spelt;
-  runs = subst (λ (m : Machine). Runs m script.commands refused old new) start (subst (λ (cs : List Command). Runs first cs refused old new) all runs);
+  runs = subst (λ (m : LiveMachine). Runs m script.commands refused old new) start (subst (λ (cs : List Command). Runs first cs refused old new) all runs);
 }
 
-pub front_of_text : (text : List ℕ) (script : Script) (first : Machine) (commands : List Command) (old new : Option (List ℕ)) → script_of_text text ≡ Ok script → first ≡ first_of script → commands ≡ script.commands
+pub front_of_text : (text : List ℕ) (script : Script) (first : LiveMachine) (commands : List Command) (old new : Option (List ℕ)) → script_of_text text ≡ Ok script → first ≡ first_of script → commands ≡ script.commands
     → RunsFront first commands old new → RunsTextFront text old new
 front_of_text text script first commands old new spelt start all runs = record {
   script = script;
   spelt = spelt;
-  runs = subst (λ (m : Machine). RunsFront m script.commands old new) start (subst (λ (cs : List Command). RunsFront first cs old new) all runs);
+  runs = subst (λ (m : LiveMachine). RunsFront m script.commands old new) start (subst (λ (cs : List Command). RunsFront first cs old new) all runs);
 }
 
-pub stops_text : (text : List ℕ) (script : Script) (first : Machine) (commands : List Command) (i : ℕ) (old new : Option (List ℕ)) → script_of_text text ≡ Ok script → first ≡ first_of script → commands ≡ script.commands
+pub stops_text : (text : List ℕ) (script : Script) (first : LiveMachine) (commands : List Command) (i : ℕ) (old new : Option (List ℕ)) → script_of_text text ≡ Ok script → first ≡ first_of script → commands ≡ script.commands
     → StopsAt first commands i (Puts old new) → StopsText text i old new
 stops_text text script first commands i old new spelt start all runs = record {
   script = script;
   spelt = spelt;
-  runs = subst (λ (m : Machine). StopsAt m script.commands i (Puts old new)) start (subst (λ (cs : List Command). StopsAt first cs i (Puts old new)) all runs);
+  runs = subst (λ (m : LiveMachine). StopsAt m script.commands i (Puts old new)) start (subst (λ (cs : List Command). StopsAt first cs i (Puts old new)) all runs);
 }
 
 -- a fault of a text that was read is the first one

@@ -2,7 +2,7 @@
 use Rattle.std.specs.Prelude.{◌≡◌, ◌<◌, ◌≤◌, ℕ, ◌+◌, ◌++◌, Bool, if◌then◌else◌, List, Option, drop}
 use Rattle.std.specs.Prelude.{length, take, Ok}
 use Rattle.line_devices.specs.Devices.{Puts, PutsButEnd, PutsFront, one_more}
-use Rattle.line_world.specs.Machine.{Machine, start}
+use Rattle.line_live.specs.Lives.{LiveMachine, start_live}
 use Rattle.line_scripts.specs.declared.commands.Command.{Command}
 use Rattle.line_scripts.specs.Scripts.{Script, script_of_text}
 use Rattle.line_answers.specs.Answers.{DoesCommand, TellsAll, CommandAnswer, refusals, text_of}
@@ -10,33 +10,34 @@ use Rattle.line_text.specs.declared.engines.RunStop.{RunStop}
 use Rattle.line_text.specs.declared.engines.RunStop.TheVariants as stops
 
 -- the machine as a script begins
-abbrev pub first_of : Script → Machine
-first_of script = start script.n script.mode
+abbrev pub first_of : Script → LiveMachine
+first_of script = start_live script.n script.mode
 
 -- the machine ran these commands, so many of them refused, and the text of what they were told was
 -- put
-pub record Runs (first : Machine) (commands : List Command) (refused : ℕ)
+pub record Runs (first : LiveMachine) (commands : List Command) (refused : ℕ)
     (old new : Option (List ℕ)) : Type 0 where
   pub told : List CommandAnswer
-  pub end : Machine
+  pub end : LiveMachine
   pub run : TellsAll first commands told end
   pub count : refused ≡ refusals told
   pub text : Puts old new (text_of told)
 
 -- the machine ran the first commands, and a prefix of the text of that run was put
-pub record RunsFront (first : Machine) (commands : List Command)
+pub record RunsFront (first : LiveMachine) (commands : List Command)
     (old new : Option (List ℕ)) : Type 0 where
   pub done : ℕ
   pub told : List CommandAnswer
-  pub end : Machine
+  pub end : LiveMachine
   pub run : TellsAll first (take done commands) told end
   pub text : PutsFront old new (text_of told)
 
 -- the first of these commands was told something or, out of memory, nothing, and these bytes
 -- are a prefix of the text of that
-pub record BeginsReply (first : Machine) (commands : List Command) (bytes : List ℕ) : Type 0 where
+pub record BeginsReply (first : LiveMachine) (commands : List Command)
+    (bytes : List ℕ) : Type 0 where
   pub told : List CommandAnswer
-  pub end : Machine
+  pub end : LiveMachine
   pub rest : List ℕ
   pub one : length told ≤ 1
   pub run : TellsAll first (take (length told) commands) told end
@@ -44,11 +45,11 @@ pub record BeginsReply (first : Machine) (commands : List Command) (bytes : List
 
 -- the machine ran the commands before that record's; of what they were told, and a prefix of what
 -- that one was told, this holds
-pub record StopsAt (first : Machine) (commands : List Command) (record_number : ℕ)
+pub record StopsAt (first : LiveMachine) (commands : List Command) (record_number : ℕ)
     (Holds : List ℕ → Type 0) : Type 0 where
   pub done : ℕ
   pub told : List CommandAnswer
-  pub end : Machine
+  pub end : LiveMachine
   pub own : List ℕ
   pub at : record_number ≡ done + 2
   pub there : done < length commands
@@ -76,15 +77,16 @@ pub record StopsText (text : List ℕ) (record_number : ℕ) (old new : Option (
   pub runs : StopsAt (first_of script) script.commands record_number (Puts old new)
 
 -- one command more was done, and counted where it was refused
-pub record DoesOne (old : Machine) (command : Command) (new : Machine) (taken now : Option (List ℕ))
-    (held : List ℕ) (refused : ℕ) (later : List ℕ) (count : ℕ) : Type 0 where
+pub record DoesOne (old : LiveMachine) (command : Command) (new : LiveMachine)
+    (taken now : Option (List ℕ)) (held : List ℕ) (refused : ℕ) (later : List ℕ)
+    (count : ℕ) : Type 0 where
   pub one : Bool
   pub does : DoesCommand old command new taken now held later one
   pub counted : count ≡ refused + (if one then 1 else 0)
 
 -- the first commands were done, so many of them refused, and the text of what they were told is put
 -- but for what is held
-pub record IsRunTo (first : Machine) (commands : List Command) (done : ℕ) (now : Machine)
+pub record IsRunTo (first : LiveMachine) (commands : List Command) (done : ℕ) (now : LiveMachine)
     (refused : ℕ) (old new : Option (List ℕ)) (held : List ℕ) : Type 0 where
   pub told : List CommandAnswer
   pub run : TellsAll first (take done commands) told now
@@ -93,7 +95,7 @@ pub record IsRunTo (first : Machine) (commands : List Command) (done : ℕ) (now
   pub text : PutsButEnd old new held (text_of told)
 
 -- why commands were not done to their end, where this holds of the text of what they were told
-abbrev pub Stops : RunStop → Machine → List Command → Option (List ℕ) → Option (List ℕ)
+abbrev pub Stops : RunStop → LiveMachine → List Command → Option (List ℕ) → Option (List ℕ)
     → (List ℕ → Type 0) → Type 0
 Stops (stops.Memory record_number) first commands old new Holds =
     StopsAt first commands record_number Holds

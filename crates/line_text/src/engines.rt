@@ -18,9 +18,9 @@ use line_answers::{Halt, do_command};
 use line_claims::TextFault;
 use line_devices::{Sink, Source};
 use line_fields::RecordWriter;
+use line_live::Live;
 use line_scripts::{Commands, KeptScript, ScriptReader};
 use line_tape::CountError;
-use line_world::World;
 use std::alloc::Global;
 
 // Why commands were not done to their end.
@@ -43,7 +43,7 @@ pub struct Done {
 // which it leaves with the writer. It answers how many were refused.
 fn do_commands<K: Sink>(
     alloc: Global,
-    world: &mut World,
+    world: &mut Live,
     commands: &mut Commands,
     sink: &mut K,
     writer: &mut RecordWriter,
@@ -80,7 +80,7 @@ fn do_commands<K: Sink>(
 // were refused.
 fn run_commands<K: Sink>(
     alloc: Global,
-    world: &mut World,
+    world: &mut Live,
     commands: &mut Commands,
     sink: &mut K,
     writer: &mut RecordWriter,
@@ -117,12 +117,12 @@ fn run_commands<K: Sink>(
 }
 
 // The machine that a script begins with.
-fn world_of(alloc: Global, script: &KeptScript) -> Result<World, TextFault>
+fn world_of(alloc: Global, script: &KeptScript) -> Result<Live, TextFault>
     requires { (1 ≤ script.now.n) × (script.now.n ≤ MOST_PROCESSES) }
     ensures ok { IfOk result (λ world. world ≡ spec.first_of (kept_script_view script.now)) }
     ensures err { IfErr result (λ fault. fault ≡ no_memory) }
 {
-    match World::new(alloc, script.n, script.mode) {
+    match Live::new(alloc, script.n, script.mode) {
         Ok(world) => Ok(world),
         Err(CountError::OutOfMemory) => Err(fault_of_code(0)),
         Err(CountError::BadCount) => unreachable!(),

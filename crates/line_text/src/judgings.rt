@@ -166,7 +166,7 @@ fn check_of<S: Source>(alloc: Global, source: &mut S) -> Result<CheckText, TextF
 ///
 /// A claim that is told `valid` names only what its history has, its entries lead from the latest
 /// surviving choices to its line, and that line is the latest consistent one of choices that
-/// survive. In a text of version 3 the whole answer is right: each process goes on in the
+/// survive. Where it has the whole answer, that is right: each process goes on in the
 /// incarnation and from the state that a restart at the line gives it, and the messages that are
 /// sent again are just those in transit at the line.
 ///
@@ -174,8 +174,8 @@ fn check_of<S: Source>(alloc: Global, source: &mut S) -> Result<CheckText, TextF
 /// nothing written. `ReadFault` says that the source failed or that the input is too long,
 /// `WriteFault` that the sink failed, and the fault 0 that memory did not suffice; these are of
 /// record 0. It takes time and memory in proportion to the input, and keeps the history and the
-/// claim, each once, and of the text no more than the longest line and some 64 KiB; a text of
-/// version 3 takes a byte more for each send.
+/// claim, each once, and of the text no more than the longest line and some 64 KiB; a whole answer
+/// takes a byte more for each send.
 pub fn check_text<S: Source, K: Sink>(
     alloc: Global,
     source: &mut S,

@@ -1,14 +1,20 @@
 //! Laws of the definitions, each the contract of a function that does nothing.
 
-ghost use Rattle.std.specs.Prelude.{◌≡◌, ◌≢◌, ◌↔◌, ◌++◌, ℕ, List, Option, Err, Ok, codes};
+ghost use Rattle.std.specs.Prelude.{◌≡◌, ◌≢◌, ◌↔◌, ◌++◌, ◌≤◌, ℕ, List, Option, Err, Ok, codes};
+ghost use Rattle.std.specs.Prelude.{length};
 ghost use Rattle.line_check.specs.declared.faults.CertFault.{CertFault};
 ghost use Rattle.line_claims.specs.Reads.{fault_of_record};
-ghost use Rattle.line_claims.specs.Records.{in_version};
+ghost use Rattle.line_claims.specs.Claims.{Claim};
+ghost use Rattle.line_claims.specs.Ranges.{AreFloorsInRange, IsClaimInRange, IsHistoryInRange};
+ghost use Rattle.line_claims.specs.Records.{claim_records, front_records, in_version};
 ghost use Rattle.line_claims.specs.Texts.{records_in};
+ghost use Rattle.line_claims.specs.Versions.{IsCheckVersion, most_in};
 ghost use Rattle.line_fields.specs.declared.faults.Fault.TheVariants.{BadCount};
 ghost use Rattle.line_fields.specs.Records.{Record};
+ghost use Rattle.line_fields.specs.Texts.{records_text};
 ghost use Rattle.line_scripts.specs.Records.{DifferInVersion};
 ghost use Rattle.line_scripts.specs.Scripts.{script_of_text};
+ghost use Rattle.line_tape.specs.History.{Process};
 ghost use Rattle.line_text.specs.Judgings.{JudgesText, JudgesTextFront};
 ghost use Rattle.line_text.specs.Runs.{RunsText, RunsTextFront, StopsText};
 
@@ -53,4 +59,21 @@ pub fn claims_of_version_1_are_judged_alike_in_version_2()
         → records_in text ≡ Ok (in_version 1 number rest)
         → records_in later ≡ Ok (in_version 2 number rest)
         → JudgesTextFront text old new → JudgesTextFront later old new }
+{}
+
+/// A claim on a history gets the same verdict in the text of each version that may have it, and
+/// whatever such a text tells of what was let go: no verdict rests on that.
+pub fn claims_are_judged_alike_whatever_was_let_go()
+    ensures { (version later : ℕ) (floors others : List (ℕ × ℕ)) (history : List Process)
+        (claim : Claim) (verdict : Option CertFault) (old new : Option (List ℕ))
+        → IsCheckVersion version → IsCheckVersion later
+        → length history ≤ most_in version → length history ≤ most_in later
+        → IsHistoryInRange history → AreFloorsInRange version (length history) floors
+        → AreFloorsInRange later (length history) others
+        → IsClaimInRange version claim → IsClaimInRange later claim
+        → length claim.marks.damaged ≡ length history
+        → JudgesText (records_text (front_records version floors history ++ claim_records claim))
+        verdict old new
+        ↔ JudgesText (records_text (front_records later others history ++ claim_records claim))
+        verdict old new }
 {}

@@ -1,4 +1,4 @@
-use Rattle.line_answers.proofs.LiveLemmas.{live_stays}
+use Rattle.line_answers.proofs.WholeLines.{live_stays}
 use Rattle.line_answers.proofs.laws.live_lines_stay.Goals as goal
 
 pub returns : goal.returns

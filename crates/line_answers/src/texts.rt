@@ -1,0 +1,121 @@
+//! The texts of a machine that lets go: of version 4 where a check or a send was let go.
+
+ghost use Rattle.std.specs.Prelude.{◌≡◌, ◌++◌, length};
+ghost use Rattle.line_answers.specs.Answers as spec;
+ghost use Rattle.line_claims.specs.Records.{in_order, line_claim, version_of, whole_claim};
+ghost use Rattle.line_devices.specs.Devices.{Outputs};
+ghost use Rattle.line_fields.specs.Texts.{records_text};
+ghost use Rattle.line_tape.specs.Line.{IsLine};
+
+use line_claims::{
+    ClaimRef, FloorRef, earliest_version, put_answer, put_answer_from, put_check_text,
+    put_check_text_from, put_history, put_history_from,
+};
+use line_devices::{DeviceFault, Sink};
+use line_fields::RecordWriter;
+use line_live::{Live, OwnedFloor};
+
+// Whether one of some numbers is not 0.
+fn has_some(numbers: &[u32]) -> bool
+    ensures { result ≡ spec.has_some numbers.now }
+{
+    for i in 0..numbers.len() {
+        if numbers[i] != 0 {
+            return true;
+        }
+    }
+    false
+}
+
+// Whether a check or a send stands before a floor.
+fn is_above(floor: &OwnedFloor) -> bool
+    ensures { result ≡ spec.is_above floor.now }
+{
+    has_some(floor.checks()) || has_some(floor.counts())
+}
+
+/// What was let go, lent.
+pub(crate) fn floor_lent(live: &Live) -> FloorRef<'_>
+    ensures checks { result.checks.now ≡ live.now.floor.checks }
+    ensures sends { result.sends.now ≡ live.now.floor.sends }
+{
+    let floor = live.floor();
+    FloorRef {
+        checks: floor.checks(),
+        sends: floor.counts(),
+    }
+}
+
+/// Writes the history text of what a machine keeps.
+pub(crate) fn put_shown<K: Sink>(
+    sink: &mut K,
+    writer: &mut RecordWriter,
+    live: &Live,
+) -> Result<(), DeviceFault>
+    ensures { Outputs result (K.taken sink.old) (K.taken sink.new) (K.faults sink.old)
+        (K.faults sink.new) writer.new
+        (writer.old
+        ++ records_text (spec.shown_records (spec.floors_gone live.now) live.now.kept.history)) }
+{
+    let history = live.kept().history();
+    if is_above(live.floor()) {
+        return put_history_from(sink, writer, &floor_lent(live), history);
+    }
+    put_history(sink, writer, earliest_version(history.n()), history)
+}
+
+/// Writes the check text of what a machine keeps and a claim on it.
+pub(crate) fn put_claimed<K: Sink>(
+    sink: &mut K,
+    writer: &mut RecordWriter,
+    live: &Live,
+    claim: &ClaimRef<'_>,
+) -> Result<(), DeviceFault>
+    ensures { Outputs result (K.taken sink.old) (K.taken sink.new) (K.faults sink.old)
+        (K.faults sink.new) writer.new
+        (writer.old
+        ++ records_text
+        (spec.claimed_records
+        (version_of (in_order live.now.kept.history claim.now.marks.now))
+        (spec.floors_gone live.now) live.now.kept.history
+        (line_claim (in_order live.now.kept.history claim.now.marks.now) claim.now.failed.now
+        claim.now.line.now claim.now.certificate.now))) }
+{
+    let history = live.kept().history();
+    if is_above(live.floor()) {
+        return put_check_text_from(sink, writer, &floor_lent(live), history, claim);
+    }
+    put_check_text(
+        sink,
+        writer,
+        history,
+        claim.marks,
+        claim.failed,
+        claim.line,
+        claim.certificate,
+    )
+}
+
+/// Writes the check text of what a machine keeps, and a claim on it with the whole answer.
+pub(crate) fn put_judged<K: Sink>(
+    sink: &mut K,
+    writer: &mut RecordWriter,
+    live: &Live,
+    claim: &ClaimRef<'_>,
+) -> Result<(), DeviceFault>
+    requires { IsLine live.now.kept.history claim.now.line.now }
+    ensures { Outputs result (K.taken sink.old) (K.taken sink.new) (K.faults sink.old)
+        (K.faults sink.new) writer.new
+        (writer.old
+        ++ records_text
+        (spec.claimed_records 3 (spec.floors_gone live.now) live.now.kept.history
+        (whole_claim live.now.kept.history
+        (in_order live.now.kept.history claim.now.marks.now) claim.now.failed.now
+        claim.now.line.now claim.now.certificate.now))) }
+{
+    let history = live.kept().history();
+    if is_above(live.floor()) {
+        return put_answer_from(sink, writer, &floor_lent(live), history, claim);
+    }
+    put_answer(sink, writer, history, claim)
+}
