@@ -20,9 +20,10 @@ use line_text::{TextFault, check_text, run_text};
 use line_words::{Job, WordsFault, command_of, fault_of_reading, line_with_file};
 use std::alloc::{AllocError, Global};
 use std::process::ExitCode;
+use std::rt::Files;
 use std::sync::Wait;
 use std::thread::Threads;
-use std::{env, io};
+use std::{env, fs, io};
 
 // The words ask for no more workers than a drill can have.
 const _: () = prove!(line_words::MOST_DRILL_WORKERS as usize == MOST_WORKERS);
@@ -78,6 +79,29 @@ fn serve(rt: &(impl Input + Print + Eprint), alloc: Global) -> u8 {
     let mut source = ReadSource::new(rt.reader());
     let mut sink = WriteSink::new(io::writer(rt));
     tell_service(rt, line_service::serve(alloc, &mut source, &mut sink))
+}
+
+/// Opens the saved machine whose text a file has, answers the records on standard input as they
+/// come, and says how that went. Nothing of the file is answered, and where it has a fault nothing
+/// is served.
+fn serve_from(rt: &(impl Input + Print + Eprint + Files), alloc: Global, file: &str) -> u8 {
+    let Ok(opened) = fs::open(rt, file) else {
+        let fault = TextFault {
+            record_number: 0,
+            code: 36,
+        };
+        return tell(rt, &fault);
+    };
+    let mut text = ReadSource::new(opened);
+    match line_service::open_saved_text(alloc, &mut text) {
+        Ok(machine) => {
+            let mut source = ReadSource::new(rt.reader());
+            let mut sink = WriteSink::new(io::writer(rt));
+            let served = line_service::serve_from(alloc, machine, &mut source, &mut sink);
+            tell_service(rt, served)
+        }
+        Err(fault) => tell(rt, &fault),
+    }
 }
 
 /// Collects what processes report on standard input as it comes, and says how that went.
@@ -184,7 +208,7 @@ fn command_line<'a>(alloc: Global, given: &'a [String]) -> Result<Vec<&'a str>, 
 
 /// Does what the given words ask for, and says how that went.
 fn done(
-    rt: &(impl Input + Print + Eprint + Threads + Wait + Sync),
+    rt: &(impl Input + Print + Eprint + Files + Threads + Wait + Sync),
     alloc: Global,
     given: &[String],
 ) -> u8 {
@@ -193,7 +217,8 @@ fn done(
     };
     match command_of(alloc, &words) {
         Ok(Job::Run) => run(rt, alloc),
-        Ok(Job::Serve) => serve(rt, alloc),
+        Ok(Job::Serve { from: None }) => serve(rt, alloc),
+        Ok(Job::Serve { from: Some(file) }) => serve_from(rt, alloc, file),
         Ok(Job::Collect) => collect(rt, alloc),
         Ok(Job::Check) => check(rt, alloc),
         Ok(Job::Drill { workers, rounds }) => drill(rt, alloc, workers, rounds),

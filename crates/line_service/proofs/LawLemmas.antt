@@ -1,9 +1,10 @@
 -- Inputs that are scripts, and records with a fault.
 use Rattle.std.proofs.Common.{◌≡◌, ◌≢◌, ℕ, ◌+◌, Bool, true, false, cond, List, [], ◌∷◌, ◌++◌, length, refl, sym, ap, ◌∙◌, subst}
-use Rattle.std.specs.Prelude.{Option, None, Some, Result, Ok, Err, map, if◌then◌else◌}
+use Rattle.std.specs.Prelude.{None, Some, Result, Ok, Err, map, if◌then◌else◌}
 use Rattle.std.specs.List.{flat_map}
 use Rattle.std.proofs.lemmas.List.{length-replicate}
 use Rattle.line_answers.specs.Answers.{CommandAnswer, Tells, TellsAll, is_refused, command_answer_records}
+use Rattle.line_claims.specs.declared.faults.TextError.{TextError}
 use Rattle.line_claims.specs.declared.faults.TextFault.{TextFault}
 use Rattle.line_claims.specs.Reads.{at_record}
 use Rattle.line_conversations.specs.declared.outcomes.Outcome.{Outcome}
@@ -19,15 +20,22 @@ use Rattle.line_fields.specs.Records.{Record, records_of_text}
 use Rattle.line_steps.specs.declared.modes.Mode.{Mode}
 use Rattle.line_scripts.specs.declared.commands.Command.{Command}
 use Rattle.line_scripts.specs.Scripts.{Script, command_in, commands_from, script_of, script_of_text, world_of}
-use Rattle.line_service.specs.Services.{ServiceAnswer, Began, Faulted, Replied, Hears, IsRunOf, service_answer_records, outcome_of, service_rules}
+use Rattle.line_service.specs.Services.{ServiceAnswer, Began, Dropped, Faulted, Replied, ServiceState, Empty, Has, Reads, Hears, IsRunOf, service_answer_records, outcome_of, service_rules}
+use Rattle.line_service.proofs.TextLemmas.{start_world}
 use Rattle.line_service.proofs.LengthLemmas.{length_told}
-use Rattle.line_world.specs.Machine.{Machine, start}
+use Rattle.line_live.specs.Lives.{LiveMachine, start_live}
 
 -- ---- faults
 
-pub same_behind_fault : (old new : Option Machine) (one : Result Record Fault) (error : ReadError) → Hears old one (Faulted error) new → new ≡ old
-same_behind_fault None new one error h = h.1
-same_behind_fault (Some machine) new one error h = h.1
+pub same_behind_fault : (old new : ServiceState) (one : Result Record Fault) (error : ReadError) → Hears old one (Faulted error) new → new ≡ old
+same_behind_fault Empty new one error h = h.1
+same_behind_fault (Reads place number) new one error h = h.1
+same_behind_fault (Has machine) new one error h = h.1
+
+pub none_behind_drop : (old new : ServiceState) (one : Result Record Fault) (error : TextError) → Hears old one (Dropped error) new → new ≡ Empty
+none_behind_drop Empty new one error h = h.1
+none_behind_drop (Reads place number) new one error h = h.3
+none_behind_drop (Has machine) new one error h = absurd h
 
 -- ---- outcomes
 
@@ -36,8 +44,11 @@ stays_faulted [] = refl
 stays_faulted (one ∷ answers) = stays_faulted answers
 
 -- behind a fault the outcome is the worst
-faulted_first : (outcome : Outcome) (error : ReadError) (answers : List ServiceAnswer) → worst service_rules outcome (Faulted error ∷ answers) ≡ outcomes.Faulted
+pub faulted_first : (outcome : Outcome) (error : ReadError) (answers : List ServiceAnswer) → worst service_rules outcome (Faulted error ∷ answers) ≡ outcomes.Faulted
 faulted_first outcome error answers = ap (λ (o : Outcome). worst service_rules o answers) (worse_faulted outcome) ∙ stays_faulted answers
+
+pub dropped_first : (outcome : Outcome) (error : TextError) (answers : List ServiceAnswer) → worst service_rules outcome (Dropped error ∷ answers) ≡ outcomes.Faulted
+dropped_first outcome error answers = ap (λ (o : Outcome). worst service_rules o answers) (worse_faulted outcome) ∙ stays_faulted answers
 
 -- no fault so far, and none of what commands are told
 told_outcome : (refused : Bool) → cond refused outcomes.Refused outcomes.Done ≢ outcomes.Faulted
@@ -94,16 +105,16 @@ none_spelt n i commands h = cc
 abbrev pub heard_records : List Record → List (Result Record Fault)
 heard_records records = map Ok records
 
-command_at : (machine : Machine) (n : ℕ) (r : Record) (command : Command) → n ≡ length machine.history → command_in n r ≡ Ok command → command_in (length machine.history) r ≡ Ok command
+command_at : (machine : LiveMachine) (n : ℕ) (r : Record) (command : Command) → n ≡ length machine.kept.history → command_in n r ≡ Ok command → command_in (length machine.kept.history) r ≡ Ok command
 command_at machine n r command is h = subst (λ (m : ℕ). command_in m r ≡ Ok command) is h
 
 -- what commands are told is heard
-told_none : (old new : Machine) (told : List CommandAnswer) → TellsAll old [] told new → HearsAll service_rules (Some old) [] (map Replied told) (Some new)
-told_none old new [] run = ap Some run
+told_none : (old new : LiveMachine) (told : List CommandAnswer) → TellsAll old [] told new → HearsAll service_rules (Has old) [] (map Replied told) (Has new)
+told_none old new [] run = ap Has run
 told_none old new (one ∷ told) run = absurd run
 
-told_heard : (n i : ℕ) (records : List Record) (commands : List Command) (old new : Machine) (told : List CommandAnswer) → n ≡ length old.history → commands_from n i records ≡ Ok commands → TellsAll old commands told new
-    → HearsAll service_rules (Some old) (heard_records records) (map Replied told) (Some new)
+told_heard : (n i : ℕ) (records : List Record) (commands : List Command) (old new : LiveMachine) (told : List CommandAnswer) → n ≡ length old.kept.history → commands_from n i records ≡ Ok commands → TellsAll old commands told new
+    → HearsAll service_rules (Has old) (heard_records records) (map Replied told) (Has new)
 told_heard n i [] commands old new told is spelt run = told_none old new told (subst (λ (cs : List Command). TellsAll old cs told new) (none_spelt n i commands spelt) run)
 told_heard n i (r ∷ records) commands old new [] is spelt run =
     let first = first_spelt n i r records commands spelt in
@@ -112,34 +123,35 @@ told_heard n i (r ∷ records) commands old new [] is spelt run =
 told_heard n i (r ∷ records) commands old new (one ∷ told) is spelt run =
     let first = first_spelt n i r records commands spelt in
     let k : TellsAll old (first.command ∷ first.others) (one ∷ told) new = subst (λ (cs : List Command). TellsAll old cs (one ∷ told) new) first.all run in (
-      Some k.0,
+      Has k.0,
       (first.command, command_at old n r first.command is first.spelt, k.0, k.1, refl),
       told_heard n (i + 1) records first.others k.0 new told (is ∙ sym (length_told old first.command one k.0 k.1)) first.rest_are k.2,
     )
 
 -- commands are told these, which are the answers
-record IsTold (old : Machine) (commands : List Command) (answers : List ServiceAnswer) (new : Option Machine) : Type 0 where
+record IsTold (old : LiveMachine) (commands : List Command) (answers : List ServiceAnswer) (new : ServiceState) : Type 0 where
   told : List CommandAnswer
-  end : Machine
+  end : LiveMachine
   answers_are : answers ≡ map Replied told
-  new_is : new ≡ Some end
+  new_is : new ≡ Has end
   run : TellsAll old commands told end
 
 -- what is heard without a fault is what commands are told
-heard_told : (n i : ℕ) (records : List Record) (commands : List Command) (old : Machine) (new : Option Machine) (answers : List ServiceAnswer) (outcome : Outcome) → n ≡ length old.history
-    → commands_from n i records ≡ Ok commands → HearsAll service_rules (Some old) (heard_records records) answers new → worst service_rules outcome answers ≢ outcomes.Faulted → IsTold old commands answers new
+heard_told : (n i : ℕ) (records : List Record) (commands : List Command) (old : LiveMachine) (new : ServiceState) (answers : List ServiceAnswer) (outcome : Outcome) → n ≡ length old.kept.history
+    → commands_from n i records ≡ Ok commands → HearsAll service_rules (Has old) (heard_records records) answers new → worst service_rules outcome answers ≢ outcomes.Faulted → IsTold old commands answers new
 heard_told n i [] commands old new [] outcome is spelt heard good =
     record { told = []; end = old; answers_are = refl; new_is = heard; run = subst (λ (cs : List Command). TellsAll old cs [] old) (sym (none_spelt n i commands spelt)) refl }
 heard_told n i [] commands old new (one ∷ answers) outcome is spelt heard good = absurd heard
 heard_told n i (r ∷ records) commands old new [] outcome is spelt heard good = absurd heard
 heard_told n i (r ∷ records) commands old new (Began ∷ answers) outcome is spelt heard good = absurd heard.1
+heard_told n i (r ∷ records) commands old new (Dropped error ∷ answers) outcome is spelt heard good = absurd heard.1
 heard_told n i (r ∷ records) commands old new (Faulted error ∷ answers) outcome is spelt heard good = absurd (good (faulted_first outcome error answers))
 heard_told n i (r ∷ records) commands old new (Replied one ∷ answers) outcome is spelt (mid, (command, read, later, tells, mid_is), heard) good =
     let first = first_spelt n i r records commands spelt in
     let same : command ≡ first.command = let there = command_at old n r first.command is first.spelt in cc in
     let told : Tells old first.command one later = subst (λ (c : Command). Tells old c one later) same tells in
     let k = heard_told n (i + 1) records first.others later new answers (worse outcome (outcome_of (Replied one))) (is ∙ sym (length_told old first.command one later told)) first.rest_are
-    (subst (λ (m : Option Machine). HearsAll service_rules m (heard_records records) answers new) mid_is heard) good in
+    (subst (λ (m : ServiceState). HearsAll service_rules m (heard_records records) answers new) mid_is heard) good in
     record {
       told = one ∷ k.told;
       end = k.end;
@@ -193,44 +205,47 @@ spelt_script text script h = let parts = script_if (is_input_text text) (records
 pub spelt_allowed : (text : List ℕ) (script : Script) → script_of_text text ≡ Ok script → is_input_text text ≡ true
 spelt_allowed text script h = (spelt_script text script h).0
 
-start_long : (n : ℕ) (mode : Mode) → n ≡ length (start n mode).history
+start_long : (n : ℕ) (mode : Mode) → n ≡ length (start_live n mode).kept.history
 start_long n mode = sym (length-replicate n _)
 
 -- its records are answered as it is run
-pub served_as_run : (text : List ℕ) (script : Script) (answers : List ServiceAnswer) (new : Option Machine) → script_of_text text ≡ Ok script → records_of text ≡ heard_records (records_of_text text)
-    → IsRunOf script answers new → HearsAll service_rules None (records_of text) answers new
+pub served_as_run : (text : List ℕ) (script : Script) (answers : List ServiceAnswer) (new : ServiceState) → script_of_text text ≡ Ok script → records_of text ≡ heard_records (records_of_text text)
+    → IsRunOf script answers new → HearsAll service_rules Empty (records_of text) answers new
 served_as_run text script answers new spelt heard h =
     let parts = (spelt_script text script spelt).1 in
-    let first : Machine = start script.n script.mode in
-    let run : HearsAll service_rules None (heard_records (parts.first ∷ parts.rest)) (Began ∷ map Replied h.told) (Some h.end) = (
-      Some first,
-      ((script.n, script.mode), parts.began, refl),
+    let first : LiveMachine = start_live script.n script.mode in
+    let run : HearsAll service_rules Empty (heard_records (parts.first ∷ parts.rest)) (Began ∷ map Replied h.told) (Has h.end) = (
+      Has first,
+      (Some (script.n, script.mode), start_world parts.first (script.n, script.mode) parts.began, refl),
       told_heard script.n 2 parts.rest script.commands first h.end h.told (start_long script.n script.mode) parts.commands_are h.run,
     ) in
-    let P : List (Result Record Fault) → List ServiceAnswer → Option Machine → Type 0 = λ rs these m. HearsAll service_rules None rs these m in
-    subst (λ (m : Option Machine). P (records_of text) answers m) (sym h.new_is)
-    (subst (λ (these : List ServiceAnswer). P (records_of text) these (Some h.end)) (sym h.answers_are)
-    (subst (λ (rs : List (Result Record Fault)). P rs (Began ∷ map Replied h.told) (Some h.end)) (sym (heard ∙ ap heard_records parts.records_are)) run))
+    let P : List (Result Record Fault) → List ServiceAnswer → ServiceState → Type 0 = λ rs these m. HearsAll service_rules Empty rs these m in
+    subst (λ (m : ServiceState). P (records_of text) answers m) (sym h.new_is)
+    (subst (λ (these : List ServiceAnswer). P (records_of text) these (Has h.end)) (sym h.answers_are)
+    (subst (λ (rs : List (Result Record Fault)). P rs (Began ∷ map Replied h.told) (Has h.end)) (sym (heard ∙ ap heard_records parts.records_are)) run))
 
-pub good_as_run : (script : Script) (answers : List ServiceAnswer) (new : Option Machine) → IsRunOf script answers new → worst service_rules outcomes.Done answers ≢ outcomes.Faulted
+pub good_as_run : (script : Script) (answers : List ServiceAnswer) (new : ServiceState) → IsRunOf script answers new → worst service_rules outcomes.Done answers ≢ outcomes.Faulted
 good_as_run script answers new h bad =
     told_never_faulted outcomes.Done h.told (λ e. cc) (ap (λ (these : List ServiceAnswer). worst service_rules outcomes.Done these) (sym h.answers_are) ∙ bad)
 
-began_first : (script : Script) (first : Record) (rest : List Record) (answers : List ServiceAnswer) (new : Option Machine) → world_of first ≡ Ok (script.n, script.mode) → commands_from script.n 2 rest ≡ Ok script.commands
-    → HearsAll service_rules None (heard_records (first ∷ rest)) answers new → worst service_rules outcomes.Done answers ≢ outcomes.Faulted → IsRunOf script answers new
+began_first : (script : Script) (first : Record) (rest : List Record) (answers : List ServiceAnswer) (new : ServiceState) → world_of first ≡ Ok (script.n, script.mode) → commands_from script.n 2 rest ≡ Ok script.commands
+    → HearsAll service_rules Empty (heard_records (first ∷ rest)) answers new → worst service_rules outcomes.Done answers ≢ outcomes.Faulted → IsRunOf script answers new
 began_first script first rest [] new began commands heard good = absurd heard
 began_first script first rest (Faulted error ∷ answers) new began commands heard good = absurd (good (faulted_first outcomes.Done error answers))
 began_first script first rest (Replied told ∷ answers) new began commands heard good = absurd heard.1
-began_first script first rest (Began ∷ answers) new began commands (mid, (world, read, mid_is), heard) good =
-    let same : world ≡ (script.n, script.mode) = cc in
-    let there : mid ≡ Some (start script.n script.mode) = mid_is ∙ ap (λ (w : ℕ × Mode). Some (start w.0 w.1)) same in
-    let k = heard_told script.n 2 rest script.commands (start script.n script.mode) new answers outcomes.Done (start_long script.n script.mode) commands
-    (subst (λ (m : Option Machine). HearsAll service_rules m (heard_records rest) answers new) there heard) good in
+began_first script first rest (Dropped error ∷ answers) new began commands heard good = absurd (good (dropped_first outcomes.Done error answers))
+began_first script first rest (Began ∷ answers) new began commands (mid, (None, read, by), heard) good =
+    let there = start_world first (script.n, script.mode) began in absurd cc
+began_first script first rest (Began ∷ answers) new began commands (mid, (Some world, read, mid_is), heard) good =
+    let same : world ≡ (script.n, script.mode) = let there = start_world first (script.n, script.mode) began in cc in
+    let there : mid ≡ Has (start_live script.n script.mode) = mid_is ∙ ap (λ (w : ℕ × Mode). Has (start_live w.0 w.1)) same in
+    let k = heard_told script.n 2 rest script.commands (start_live script.n script.mode) new answers outcomes.Done (start_long script.n script.mode) commands
+    (subst (λ (m : ServiceState). HearsAll service_rules m (heard_records rest) answers new) there heard) good in
     record { told = k.told; end = k.end; run = k.run; answers_are = ap (λ (these : List ServiceAnswer). Began ∷ these) k.answers_are; new_is = k.new_is }
 
-pub run_as_served : (text : List ℕ) (script : Script) (answers : List ServiceAnswer) (new : Option Machine) → script_of_text text ≡ Ok script → records_of text ≡ heard_records (records_of_text text)
-    → HearsAll service_rules None (records_of text) answers new → worst service_rules outcomes.Done answers ≢ outcomes.Faulted → IsRunOf script answers new
+pub run_as_served : (text : List ℕ) (script : Script) (answers : List ServiceAnswer) (new : ServiceState) → script_of_text text ≡ Ok script → records_of text ≡ heard_records (records_of_text text)
+    → HearsAll service_rules Empty (records_of text) answers new → worst service_rules outcomes.Done answers ≢ outcomes.Faulted → IsRunOf script answers new
 run_as_served text script answers new spelt heard served good =
     let parts = (spelt_script text script spelt).1 in
     began_first script parts.first parts.rest answers new parts.began parts.commands_are
-    (subst (λ (rs : List (Result Record Fault)). HearsAll service_rules None rs answers new) (heard ∙ ap heard_records parts.records_are) served) good
+    (subst (λ (rs : List (Result Record Fault)). HearsAll service_rules Empty rs answers new) (heard ∙ ap heard_records parts.records_are) served) good

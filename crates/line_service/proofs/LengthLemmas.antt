@@ -1,18 +1,23 @@
 -- A machine keeps its number of processes.
 use Rattle.std.proofs.Common.{◌≡◌, ℕ, ◌+◌, List, [], ◌∷◌, length, refl, ap, ◌∙◌}
-use Rattle.std.specs.Prelude.{Bool, None, Some}
+use Rattle.std.specs.Prelude.{Bool, Option, None, Some}
+use Rattle.std.proofs.lemmas.List.FromFn.{length-map-range_with_len}
 use Rattle.std.proofs.Math.ListN.{length-set}
-use Rattle.line_answers.specs.Answers.{CommandAnswer, Answered, Refused, Listing, Shown, Claimed, Planned, Judged, Tells}
+use Rattle.line_answers.specs.Answers.{CommandAnswer, Answered, Refused, Listing, Shown, Claimed, Planned, Judged, Forgot, Saved, Forgets, Tells}
+use Rattle.line_cuts.specs.Cuts.{Floor, cut_tape}
+use Rattle.line_lives.specs.Lives.{cut_step}
+use Rattle.line_live.specs.Lives.{LetsGo, LiveMachine, TakesUnless, floor_refusal}
 use Rattle.line_moves.specs.Fates.{events_taken}
 use Rattle.line_moves.specs.Moves.{with_events}
 use Rattle.line_scripts.specs.declared.commands.Command.{Command}
 use Rattle.line_scripts.specs.declared.commands.Command.TheVariants as commands
 use Rattle.line_tape.specs.declared.events.Event.{Event}
 use Rattle.line_tape.specs.declared.events.Event.TheVariants.{Send as SendEvent, Check as CheckEvent}
-use Rattle.line_tape.specs.History.{Process, incarnation_at, with_event}
+use Rattle.line_tape.specs.History.{Process, incarnation_at, process_at, with_event}
 use Rattle.line_tape.proofs.StayLemmas.{length_restarted}
 use Rattle.line_world.specs.declared.replies.Answer.{Answer}
 use Rattle.line_world.specs.declared.replies.Answer.TheVariants as answers
+use Rattle.line_world.specs.declared.replies.StepError.{StepError}
 use Rattle.line_world.specs.declared.replies.Reply.{Reply}
 use Rattle.line_world.specs.declared.replies.Reply.TheVariants.{Recovered}
 use Rattle.line_steps.specs.declared.steps.Step.{Step}
@@ -48,15 +53,37 @@ length_taken : (old : Machine) (step : Step) (answer : Answer) (new : Machine) �
 length_taken old step (answers.Done reply) new h = length_done old step reply new h.1
 length_taken old step (answers.Refused error) new h = same_length new old h.1
 
-pub length_told : (old : Machine) (command : Command) (told : CommandAnswer) (new : Machine) → Tells old command told new → length new.history ≡ length old.history
-length_told old (commands.Do step) (Answered answer) new h = length_taken old step answer new h
-length_told old (commands.Refused code) (Refused shown) new h = same_length new old h.1
-length_told old commands.Rounds (Listing n rounds) new h = same_length new old h.2
-length_told old commands.History (Shown history) new h = same_length new old h.1
-length_told old (commands.Bundle failed) (Claimed history claim) new h = same_length new old h.2
-length_told old (commands.Bundle failed) (Refused code) new h = same_length new old h.2
-length_told old (commands.Plan failed) (Planned answer) new h = same_length new old h.1
-length_told old commands.Live (Planned answer) new h = same_length new old h.1
-length_told old (commands.Answer failed) (Judged history claim) new h = same_length new old h.2
-length_told old (commands.Answer failed) (Planned (answers.Refused error)) new h = same_length new old h.1
+-- a machine that lets go answers by what it keeps
+same_kept : (one other : LiveMachine) → one ≡ other → length one.kept.history ≡ length other.kept.history
+same_kept one other same = ap (λ (m : LiveMachine). length m.kept.history) same
+
+length_unless : (cause : Option StepError) (old : LiveMachine) (step : Step) (answer : Answer) (new : LiveMachine) → TakesUnless cause old step answer new → length new.kept.history ≡ length old.kept.history
+length_unless (Some cause) old step answer new h = same_kept new old h.1
+length_unless None old step answer new h = length_taken old.kept (cut_step old.floor step) h.told new.kept h.takes
+
+-- and what it lets go is no process
+length_let_go : (old : LiveMachine) (later : Floor) (new : LiveMachine) → LetsGo old later new → length new.kept.history ≡ length old.kept.history
+length_let_go old later new h =
+    ap (λ (history : List Process). length history) h.kept.history
+    ∙ length-map-range_with_len (λ p. record (process_at old.kept.history p) { tape = cut_tape later p (process_at old.kept.history p).tape }) 0 (length old.kept.history)
+
+length_forgets : (old : LiveMachine) (round : Option ℕ) (new : LiveMachine) → Forgets old round new → length new.kept.history ≡ length old.kept.history
+length_forgets old None new h = length_let_go old h.later new h.lets_go
+length_forgets old (Some round) new h = length_let_go old h.later new h.lets_go
+
+pub length_told : (old : LiveMachine) (command : Command) (told : CommandAnswer) (new : LiveMachine) → Tells old command told new → length new.kept.history ≡ length old.kept.history
+length_told old (commands.Do step) (Answered answer) new h = length_unless (floor_refusal old.floor step) old step answer new h
+length_told old (commands.Refused code) (Refused shown) new h = same_kept new old h.1
+length_told old commands.Rounds (Listing floor n rounds) new h = same_kept new old h.3
+length_told old commands.History (Shown floors history) new h = same_kept new old h.2
+length_told old (commands.Bundle failed) (Claimed floors history claim) new h = same_kept new old h.3
+length_told old (commands.Bundle failed) (Refused code) new h = same_kept new old h.2
+length_told old (commands.Plan failed) (Planned answer) new h = same_kept new old h.1
+length_told old commands.Live (Planned answer) new h = same_kept new old h.1
+length_told old (commands.Answer failed) (Judged floors history claim) new h = same_kept new old h.3
+length_told old (commands.Answer failed) (Planned (answers.Refused error)) new h = same_kept new old h.1
+length_told old (commands.Forget round) (Forgot named floors) new h = length_forgets old round new h.1
+length_told old (commands.Forget round) (Refused code) new h = same_kept new old h.1
+length_told old commands.Save (Saved parts) new h = same_kept new old h.2
+length_told old commands.Save (Refused code) new h = same_kept new old h.1
 length_told old command told new h = absurd h

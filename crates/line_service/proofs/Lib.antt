@@ -1,3 +1,6 @@
+mod FileLemmas
 mod LengthLemmas
 mod LawLemmas
 mod RecordLemmas
+mod SavedLaws
+mod TextLemmas

@@ -1,2 +1,4 @@
+pub mod Files
 pub mod Laws
+pub mod Served
 pub mod Services

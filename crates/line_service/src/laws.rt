@@ -1,26 +1,31 @@
 //! Laws of the definitions, each the contract of a function that does nothing.
 
-ghost use Rattle.std.specs.Prelude.{◌≡◌, ◌≢◌, ◌↔◌, ◌++◌, ◌∷◌, ℕ, List, None, Option, Ok, Result};
+ghost use Rattle.std.specs.Prelude.{◌≡◌, ◌≢◌, ◌↔◌, ◌++◌, ◌∷◌, ℕ, List, [], Ok, Result};
 ghost use Rattle.std.specs.Prelude.{map};
 ghost use Rattle.std.specs.List.{flat_map};
 ghost use Rattle.line_answers.specs.Answers.{CommandAnswer, text_of};
+ghost use Rattle.line_claims.specs.declared.faults.TextError.{TextError};
+ghost use Rattle.line_claims.specs.Parts.{Part};
+ghost use Rattle.line_answers.specs.Openings.{opened};
+ghost use Rattle.line_claims.specs.Saved.{SavedParts, saved_of};
 ghost use Rattle.line_conversations.specs.declared.outcomes.Outcome.TheVariants as outcomes;
 ghost use Rattle.line_conversations.specs.Conversations.{Serves, ServesBoth, ServesText, Standing};
 ghost use Rattle.line_conversations.specs.Lines.{HasShortLines};
-ghost use Rattle.line_conversations.specs.Rules.{worst};
+ghost use Rattle.line_conversations.specs.Rules.{HearsAll, worst};
 ghost use Rattle.line_fields.specs.declared.faults.Fault.{Fault};
 ghost use Rattle.line_fields.specs.declared.faults.ReadError.{ReadError};
 ghost use Rattle.line_fields.specs.Records.{Record};
 ghost use Rattle.line_fields.specs.Texts.{records_text};
 ghost use Rattle.line_scripts.specs.Scripts.{Script, script_of_text};
-ghost use Rattle.line_service.specs.Services.{Began, Faulted, Hears, IsRunOf, Replied};
-ghost use Rattle.line_service.specs.Services.{ServiceAnswer, service_answer_records, service_rules};
-ghost use Rattle.line_world.specs.Machine.{Machine};
+ghost use Rattle.line_service.specs.Services.{Began, Dropped, Empty, Faulted, Has, Hears};
+ghost use Rattle.line_service.specs.Services.{IsRunOf, Replied};
+ghost use Rattle.line_service.specs.Services.{ServiceAnswer, ServiceState, service_answer_records};
+ghost use Rattle.line_service.specs.Services.{service_rules};
 
 /// However an input is cut into pieces, its answers are the same: what two pieces may be answered,
 /// one after the other, is what they may be answered as one.
 pub fn pieces_are_answered_alike()
-    ensures { (old new : Standing (Option Machine)) (bytes more : List ℕ)
+    ensures { (old new : Standing ServiceState) (bytes more : List ℕ)
         (answers : List ServiceAnswer) → Serves service_rules old (bytes ++ more) answers new
         ↔ ServesBoth service_rules old bytes more answers new }
 {}
@@ -31,23 +36,37 @@ pub fn pieces_are_answered_alike()
 /// answers is that of the run.
 pub fn scripts_are_served_as_they_run()
     ensures served { (text : List ℕ) (script : Script) (answers : List ServiceAnswer)
-        (new : Option Machine)
+        (new : ServiceState)
         → script_of_text text ≡ Ok script → HasShortLines text
-        → ServesText service_rules None text answers new
+        → ServesText service_rules Empty text answers new
         → worst service_rules outcomes.Done answers ≢ outcomes.Faulted
         → IsRunOf script answers new }
     ensures run { (text : List ℕ) (script : Script) (answers : List ServiceAnswer)
-        (new : Option Machine)
+        (new : ServiceState)
         → script_of_text text ≡ Ok script → HasShortLines text
-        → IsRunOf script answers new → ServesText service_rules None text answers new
+        → IsRunOf script answers new → ServesText service_rules Empty text answers new
         × (worst service_rules outcomes.Done answers ≢ outcomes.Faulted) }
     ensures texts { (told : List CommandAnswer)
         → records_text (flat_map service_answer_records (Began ∷ map Replied told)) ≡ text_of told }
 {}
 
 /// A record that is answered by a fault, or by `OutOfMemory`, changes nothing: the machine is the
-/// one that there was, or there is still none.
+/// one that there was, or there is still none. What was taken of a saved machine stays too, but for
+/// a fault in one of its own records, which drops it.
 pub fn faults_change_nothing()
-    ensures { (old new : Option Machine) (one : Result Record Fault) (error : ReadError)
+    ensures faulted { (old new : ServiceState) (one : Result Record Fault) (error : ReadError)
         → Hears old one (Faulted error) new → new ≡ old }
+    ensures dropped { (old new : ServiceState) (one : Result Record Fault) (error : TextError)
+        → Hears old one (Dropped error) new → new ≡ Empty }
+{}
+
+/// The text of a saved machine that is served without a fault leaves that machine: the one that is
+/// opened of what the text spells.
+pub fn saved_machines_are_served()
+    ensures { (records : List Record) (saved : Part SavedParts) (answers : List ServiceAnswer)
+        (new : ServiceState)
+        → saved_of records ≡ Ok saved → saved.left ≡ []
+        → HearsAll service_rules Empty (map Ok records) answers new
+        → worst service_rules outcomes.Done answers ≢ outcomes.Faulted
+        → new ≡ Has (opened saved.value) }
 {}

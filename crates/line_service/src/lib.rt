@@ -2,10 +2,16 @@
 //! before more is asked for.
 #![tactic(auto)]
 
+mod files;
 mod laws;
 mod machines;
 mod services;
+mod texts;
 
-pub use laws::{faults_change_nothing, pieces_are_answered_alike, scripts_are_served_as_they_run};
+pub use files::open_saved_text;
+pub use laws::{
+    faults_change_nothing, pieces_are_answered_alike, saved_machines_are_served,
+    scripts_are_served_as_they_run,
+};
 pub use line_conversations::{MOST_LINE, Outcome, ServeError};
-pub use services::{Service, serve, serve_turn};
+pub use services::{Service, serve, serve_from, serve_turn};

@@ -1,6 +1,6 @@
 //! A service: bytes come, and the records of a script whose lines end within them are answered.
 
-ghost use Rattle.std.specs.Prelude.{◌≡◌, ◌<◌, ◌≤◌, ◌+◌, ◌-◌, ◌^◌, ◌⊎◌, ℕ, List, [], Err, None};
+ghost use Rattle.std.specs.Prelude.{◌≡◌, ◌<◌, ◌≤◌, ◌+◌, ◌-◌, ◌^◌, ◌⊎◌, ℕ, List, [], Err};
 ghost use Rattle.std.specs.Prelude.{IfOk, OnErr, OnOk, false, length};
 ghost use Rattle.line_conversations.specs.declared.faults.ServeError.TheVariants as errors;
 ghost use Rattle.line_conversations.specs.Answers.{PutsAnswersFront};
@@ -9,11 +9,12 @@ ghost use Rattle.line_conversations.specs.Lines.{last_record};
 ghost use Rattle.line_conversations.specs.Turns.{GivesText, PutsAnswers, PutsLast};
 ghost use Rattle.line_conversations.specs.Turns as spec;
 ghost use Rattle.line_devices.specs.Devices.{IsDone, one_more};
-ghost use Rattle.line_service.specs.Services.{service_rules};
+ghost use Rattle.line_service.specs.Services.{Empty, Has, service_rules};
 
 use crate::machines::ServedMachine;
 use line_conversations::{Conversation, Outcome, ServeError, converse, take_turn};
 use line_devices::{DeviceFault, Sink, Source};
+use line_live::Live;
 use std::alloc::{AllocError, Global};
 use std::marker::Model;
 
@@ -27,11 +28,10 @@ pub struct Service {
 }
 
 impl Model for Service {
-    ghost use Rattle.std.specs.Prelude.{Option};
     ghost use Rattle.line_conversations.specs.Conversations.{Standing};
-    ghost use Rattle.line_world.specs.Machine.{Machine};
+    ghost use Rattle.line_service.specs.Services.{ServiceState};
 
-    ghost Value = { Standing (Option Machine) };
+    ghost Value = { Standing ServiceState };
 
     ghost view = { λ s. s.conversation };
 }
@@ -40,7 +40,7 @@ impl Service {
     /// A service that has heard nothing. It makes room for the longest line, and for the text of
     /// answers, which is put where it finds no room.
     pub fn new(alloc: Global) -> Result<Service, AllocError>
-        ensures { IfOk result (λ service. service ≡ first_standing None) }
+        ensures { IfOk result (λ service. service ≡ first_standing Empty) }
     {
         let conversation = Conversation::new(alloc, ServedMachine::new(alloc))?;
         Ok(Service { conversation })
@@ -127,7 +127,10 @@ pub fn serve_turn<S: Source, K: Sink>(
 ///
 /// Each record is answered by the records that a run writes for it, or by `fault,CODE,NAME`, and
 /// then by an empty line. All that was read is answered, put and let out before more is asked for.
-/// There is no limit on the input, and what was read of it is not kept. It fails where memory does
+/// In place of `world` the text of a saved machine may come, which begins with `history`: its
+/// records are answered by the empty line alone, and after the last the machine is opened. A fault
+/// in one drops what was read of the text. There is no limit on the input, and what was read of it
+/// is not kept. It fails where memory does
 /// not suffice for the start, before anything is read, and where a device fails. After a failure of
 /// the source what was read of a line that has not ended is not answered.
 pub fn serve<S: Source, K: Sink>(
@@ -139,14 +142,14 @@ pub fn serve<S: Source, K: Sink>(
     ensures done { IfOk result (λ outcome. (text : List ℕ)
         × GivesText text (S.left source.old) (S.left source.new) (S.given source.old)
         (S.given source.new)
-        × spec.AnswersText service_rules None text outcome (K.taken sink.old) (K.taken sink.new)) }
+        × spec.AnswersText service_rules Empty text outcome (K.taken sink.old) (K.taken sink.new)) }
 
     // Where memory is out, nothing begins.
     ensures memory { result ≡ Err errors.OutOfMemory → (source.new ≡ source.old)
         × (sink.new ≡ sink.old) }
 
     // Where the source failed, all lines that ended before are answered.
-    ensures read { result ≡ Err errors.Read → spec.AnswersUntilFailure service_rules None (S.left
+    ensures read { result ≡ Err errors.Read → spec.AnswersUntilFailure service_rules Empty (S.left
         source.old)
         (S.left source.new) (S.given source.old) (S.given source.new) (K.taken sink.old)
         (K.taken sink.new) }
@@ -156,7 +159,7 @@ pub fn serve<S: Source, K: Sink>(
 
     // Where the sink failed, what it took is a prefix of the answers.
     ensures write { result ≡ Err errors.Write
-        → spec.AnswersFrontOf service_rules None (S.left source.old) (S.left source.new) (S.given
+        → spec.AnswersFrontOf service_rules Empty (S.left source.old) (S.left source.new) (S.given
         source.old)
         (S.given source.new) (K.taken sink.old) (K.taken sink.new) }
 
@@ -171,4 +174,51 @@ pub fn serve<S: Source, K: Sink>(
     ensures ended { OnOk result (S.ends source.new ≡ one_more (S.ends source.old)) }
 {
     converse(alloc, ServedMachine::new(alloc), source, sink)
+}
+
+/// Reads commands for a machine from a source for as long as it gives bytes, and puts the answers
+/// to them, as `serve` does once there is a machine.
+pub fn serve_from<S: Source, K: Sink>(
+    alloc: Global,
+    machine: Live,
+    source: &mut S,
+    sink: &mut K,
+) -> Result<Outcome, ServeError>
+    // What the source gave, to its end, was answered, and this is the worst of the answers.
+    ensures done { IfOk result (λ outcome. (text : List ℕ)
+        × GivesText text (S.left source.old) (S.left source.new) (S.given source.old)
+        (S.given source.new)
+        × spec.AnswersText service_rules (Has machine) text outcome (K.taken sink.old)
+        (K.taken sink.new)) }
+
+    // Where memory is out, nothing begins.
+    ensures memory { result ≡ Err errors.OutOfMemory → (source.new ≡ source.old)
+        × (sink.new ≡ sink.old) }
+
+    // Where the source failed, all lines that ended before are answered.
+    ensures read { result ≡ Err errors.Read
+        → spec.AnswersUntilFailure service_rules (Has machine) (S.left source.old)
+        (S.left source.new) (S.given source.old) (S.given source.new) (K.taken sink.old)
+        (K.taken sink.new) }
+    ensures cause { result ≡ Err errors.Read
+        → (S.faults source.new ≡ one_more (S.faults source.old))
+        ⊎ (S.given source.old + (2 ^ 64 - 1) ≤ S.given source.new) }
+
+    // Where the sink failed, what it took is a prefix of the answers.
+    ensures write { result ≡ Err errors.Write
+        → spec.AnswersFrontOf service_rules (Has machine) (S.left source.old) (S.left source.new)
+        (S.given source.old)
+        (S.given source.new) (K.taken sink.old) (K.taken sink.new) }
+
+    // No failure is passed over, and a device that is sound is not blamed.
+    ensures heard { OnOk result (S.faults source.new ≡ S.faults source.old) }
+    ensures sound { OnOk result (K.faults sink.new ≡ K.faults sink.old) }
+    ensures kept { result ≡ Err errors.Read → K.faults sink.new ≡ K.faults sink.old }
+    ensures blamed { result ≡ Err errors.Write → (S.faults source.new ≡ S.faults source.old)
+        × (K.faults sink.new ≡ one_more (K.faults sink.old)) }
+
+    // Once the source said that nothing is left, it is asked no more.
+    ensures ended { OnOk result (S.ends source.new ≡ one_more (S.ends source.old)) }
+{
+    converse(alloc, ServedMachine::of(alloc, machine), source, sink)
 }
