@@ -8,3 +8,17 @@ mod NameLemmas
 mod OrderLemmas
 mod RangeLemmas
 mod RecoveryLemmas
+mod AgreedCuts
+mod AgreedLatest
+mod AgreedChains
+mod AgreedTransit
+mod AgreedFloors
+mod MarksAlike
+mod MarksLeft
+mod RestartLeft
+mod LeftLemmas
+mod ReportLemmas
+mod AllLemmas
+mod ToldLemmas
+mod ToldPlans
+mod CallLemmas

@@ -1,8 +1,11 @@
+pub mod Alongside
 pub mod Answers
+pub mod Brought
 pub mod Collecting
 pub mod Collections
 pub mod Keeping
 pub mod Laws
+pub mod Lives
 pub mod Names
 pub mod Orders
 pub mod Ranges

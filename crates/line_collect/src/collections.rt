@@ -10,19 +10,24 @@ ghost use Rattle.line_tape.specs.Line.{IsConsistent, IsLine};
 ghost use Rattle.line_tape.specs.Restart.{HaveFurther};
 ghost use Rattle.line_tape.specs.Transit.{in_transit};
 ghost use Rattle.line_catalogue.specs.Agreement.{Agrees, IsSentAsNow};
+ghost use Rattle.line_cuts.specs.Cuts.{cut_history, cut_marks};
+ghost use Rattle.line_cuts.specs.Marks.{AreSameMarks};
 ghost use Rattle.line_collect.specs.Answers.{TakesReport};
 ghost use Rattle.line_collect.specs.Collections.{IsPlanOf, IsPlanToGoBack, HasSpentProcess};
 ghost use Rattle.line_collect.specs.Collections.{gone_back, nothing_collected};
+ghost use Rattle.line_collect.specs.Lives.{IsFloorOfLive, refusal_of_gone};
 ghost use Rattle.line_collect.specs.Refusals.{is_stale, report_error_code};
 ghost use Rattle.line_collect.specs.Writing.{refusal_of_event};
 
 use crate::refusals::CollectError;
 use crate::tellings::Told;
+use line_answers::everybody;
 use line_catalogue::{AddError, Catalogue, DamageError};
-use line_names::{Body, MOST_PROCESSES, MsgName, ProcId, ProcSet};
+use line_cuts::{OwnedFloor, cut_catalogue, floor_at};
+use line_names::{Body, Line, MOST_PROCESSES, MsgName, ProcId, ProcSet};
 use line_plan::{Plan, PlanError};
 use line_tape::{BarError, CountError, Event, History, MOST_EVENTS, MOST_STATE, Marks, State};
-use std::alloc::Global;
+use std::alloc::{AllocError, Global};
 use std::marker::Model;
 
 /// What processes reported so far, with marks of damage and bars.
@@ -254,6 +259,17 @@ impl Collection {
         Ok(plan)
     }
 
+    /// Has each process go on from its choice of a line, at which these messages are in transit.
+    pub(crate) fn go_on(&mut self, line: &Line, replays: Vec<MsgName>)
+        requires line { IsLine self.old.history line.now }
+        requires consistent { IsConsistent self.old.history line.now }
+        requires further { HaveFurther self.old.history line.now }
+        requires replays { replays.items ≡ in_transit self.old.history line.now }
+        ensures { self.new ≡ gone_back self.old line.now }
+    {
+        self.catalogue.restart_with(line, replays);
+    }
+
     /// Has each process go on from its choice of the line of a plan. It takes no memory.
     pub fn go_back(&mut self, plan: Plan)
         requires line { IsLine self.old.history plan.line }
@@ -264,5 +280,47 @@ impl Collection {
     {
         let replays = plan.replays;
         self.catalogue.restart_with(&plan.line, replays);
+    }
+
+    /// Why a receipt is refused of a message that was let go.
+    pub(crate) fn refusal_of_gone(&self, by: ProcId, incarnation: u16) -> CollectError
+        requires { by < length self.now.history }
+        ensures cause { Some (report_error_code result)
+            ≡ refusal_of_gone self.now.history by incarnation }
+        ensures others { result ≢ CollectError.OutOfMemory }
+    {
+        if self.is_stale(by, incarnation) {
+            return CollectError::StaleReport;
+        }
+        let events = self.catalogue.history().tape(by).len();
+        if events as usize == MOST_EVENTS {
+            return CollectError::TapeFull;
+        }
+        CollectError::NamesDisagree
+    }
+
+    /// The floor at the latest line where every process fails.
+    pub(crate) fn live_floor(&self, alloc: Global) -> Result<OwnedFloor, AllocError>
+        ensures { IfOk result (λ floor. IsFloorOfLive self.now floor) }
+    {
+        let failed = everybody(self.catalogue.n());
+        match self.plan_for(alloc, &failed) {
+            Ok(plan) => match floor_at(alloc, &self.catalogue, &plan.line, 0)? {
+                Some(floor) => Ok(floor),
+                None => unreachable!(),
+            },
+            Err(_) => Err(AllocError),
+        }
+    }
+
+    /// What is left of it where it is cut at a floor, in memory of its own.
+    pub(crate) fn cut_at(&self, alloc: Global, floor: &OwnedFloor) -> Result<Collection, AllocError>
+        ensures history { IfOk result
+            (λ cut. cut.history ≡ cut_history floor.now self.now.history) }
+        ensures marks { IfOk result
+            (λ cut. AreSameMarks cut.marks (cut_marks floor.now self.now.marks)) }
+    {
+        let catalogue = cut_catalogue(alloc, &self.catalogue, floor)?;
+        Ok(Collection { catalogue })
     }
 }

@@ -8,6 +8,8 @@ mod collections;
 mod keeping;
 mod kinds;
 mod laws;
+mod live_collections;
+mod live_laws;
 mod names;
 mod numbers;
 mod plan_records;
@@ -15,6 +17,7 @@ mod readers;
 mod refusals;
 mod reports;
 mod tellings;
+mod whole_names;
 
 pub use answerers::collect;
 pub use collections::Collection;
@@ -24,6 +27,10 @@ pub use laws::{
     reports_in_pieces_are_answered_alike,
 };
 pub use line_conversations::{MOST_LINE, Outcome, ServeError};
+pub use live_collections::LiveCollection;
+pub use live_laws::{
+    forgets_leave_what_is_left, live_collections_answer_as_all, live_plans_are_of_all,
+};
 pub use readers::ReportReader;
 pub use refusals::CollectError;
 pub use reports::{Report, ReportRef, reports_of};
