@@ -110,6 +110,7 @@ whole_reply floor (Barred at check) = Barred at (check + lost_checks floor at)
 whole_reply floor (Recovered plan states incarnations) =
     Recovered (record plan { value = whole_plan floor plan.value }) states incarnations
 
+-- and what it answers
 abbrev pub whole_answer : Floor → Answer → Answer
 whole_answer floor (Done reply) = Done (whole_reply floor reply)
 whole_answer floor (Refused e) = Refused e

@@ -46,12 +46,17 @@ pub mod check {
 /// and recover, one step after the other on one thread. Its links keep the order of sending or
 /// keep none.
 ///
-/// Begin with `World::new`; then `step` for one step, or `run` for a list of steps.
+/// Begin with `World::new`; then `step` for one step, or `run` for a list of steps. A `Live` is
+/// called in the same way, and `forget` has it let go what is never needed again; `resume`
+/// opens one that was saved.
 pub mod world {
+    pub use line_live::{
+        ForgetError, Live, MOST_LET_GO, OwnedFloor, ResumeError, RoundChecks, lives_answer_as_whole,
+    };
     pub use line_tape::Item;
     pub use line_world::{
-        Answer, Mode, Reply, Round, RunStopped, Step, StepError, StepRef, World, runs_keep_rounds,
-        runs_name_apart,
+        Answer, Mode, Reply, Round, RunStopped, Step, StepError, StepRef, World, is_idle,
+        runs_keep_rounds, runs_name_apart,
     };
 }
 
@@ -63,11 +68,16 @@ pub mod world {
 /// `write_check_text` or `put_answer`. `RecordReader` and `RecordWriter` are for records of your
 /// own.
 pub mod text {
-    pub use line_answers::{live_lines_stay, put_refusal, put_reply, write_reply};
+    pub use line_answers::{
+        OpenError, live_lines_stay, open_saved, put_refusal, put_reply, write_reply,
+    };
     pub use line_claims::{
-        CheckText, Claim, ClaimRef, TextFault, claims_are_read_again, histories_are_read_again,
-        name_of, put_answer, put_check_text, read_certificate, read_check_text, read_history,
-        version_2_reads_version_1, write_check_text, write_history,
+        CheckText, Claim, ClaimRef, FloorRef, SavedReader, SavedRound, SavedText, TextFault,
+        claims_are_read_again, histories_are_read_again, name_of, put_answer, put_answer_from,
+        put_check_text, put_check_text_from, put_floors, put_history_from, put_saved_end,
+        put_saved_front, put_saved_round, read_certificate, read_check_text, read_history,
+        read_saved, saved_machines_are_read_again, version_2_reads_version_1, write_check_text,
+        write_history,
     };
     pub use line_devices::{
         DeviceFault, MOST_INPUT, MemSink, MemSource, ReadRefused, ReadSource, Sink, Source,
@@ -80,7 +90,8 @@ pub mod text {
         Command, Script, read_script, scripts_are_read_again, version_2_reads_scripts_of_version_1,
     };
     pub use line_text::{
-        Done, check_text, claims_of_version_1_are_judged_alike_in_version_2, run_text,
+        Done, check_text, claims_are_judged_alike_whatever_was_let_go,
+        claims_of_version_1_are_judged_alike_in_version_2, run_text,
         scripts_of_both_versions_run_alike,
     };
 }
@@ -109,8 +120,9 @@ pub mod workers {
 pub mod service {
     pub use line_conversations::{Answerer, Conversation, Stop, converse, take_turn};
     pub use line_service::{
-        MOST_LINE, Outcome, ServeError, Service, faults_change_nothing, pieces_are_answered_alike,
-        scripts_are_served_as_they_run, serve, serve_turn,
+        MOST_LINE, Outcome, ServeError, Service, faults_change_nothing, open_saved_text,
+        pieces_are_answered_alike, saved_machines_are_served, scripts_are_served_as_they_run,
+        serve, serve_from, serve_turn,
     };
 }
 
@@ -122,9 +134,9 @@ pub mod service {
 /// a planned line stays.
 pub mod collect {
     pub use line_collect::{
-        CollectError, Collection, Report, Told, collect, cut_messages_are_not_received,
-        faults_and_refusals_change_nothing, histories_follow_each_process,
-        live_lines_stay_consistent, recovered_lines_stay_consistent,
-        reports_in_pieces_are_answered_alike,
+        CollectError, Collection, LiveCollection, Report, Told, collect,
+        cut_messages_are_not_received, faults_and_refusals_change_nothing,
+        histories_follow_each_process, live_collections_answer_as_all, live_lines_stay_consistent,
+        recovered_lines_stay_consistent, reports_in_pieces_are_answered_alike,
     };
 }
