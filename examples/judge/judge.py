@@ -32,7 +32,7 @@ def name_of(sender: str, incarnation: str, number: str) -> Name:
 
 def faults(text: str) -> Iterator[tuple[object, int]]:
     """What is wrong with an answer, each with its entry and number: the first is the verdict."""
-    (_, version, n), *records = [line.split(",") for line in text.splitlines() if line]
+    (_, _, n), *records = [line.split(",") for line in text.splitlines() if line]
     incarnations: list[int] = []
     ends: dict[tuple[int, float], int] = {}  # how many events stand before a choice of a process
     states: dict[tuple[int, float], str] = {}
@@ -92,7 +92,7 @@ def faults(text: str) -> Iterator[tuple[object, int]]:
         yield "-", 14
     if any(is_received(p, it, line[p]) and not is_sent(it, line[it[0]]) for p, it in receipts):
         yield "-", 15
-    if int(version) < 3:
+    if "start" not in claim:
         return
 
     for p, (_, incarnation, state) in enumerate(claim["start"]):
