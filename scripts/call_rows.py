@@ -1,7 +1,8 @@
 """Rows of calls of the library, as words for bench/refused, and what is to be held against a run.
 
 A row is a list of calls on one subject: a history with marks, what a process has recorded of
-rounds, a catalogue, a world, or a fleet of workers with their collector.
+rounds, a catalogue, a world, a machine that lets go, a fleet of workers with their collector, or
+what processes report of themselves.
 """
 
 import random
@@ -11,7 +12,12 @@ from typing import NamedTuple
 from slow_model.made_scripts import some_script
 
 # The subjects, by the numbers that the program knows them by.
-SUBJECTS = {"tapes": 0, "marker": 1, "catalogue": 2, "world": 3, "run": 4, "fleet": 5}
+SUBJECTS = {
+    "tapes": 0, "marker": 1, "catalogue": 2, "world": 3, "world run": 4, "fleet": 5, "live": 6,
+    "live run": 7, "collection": 8,
+}
+# Those whose steps may be taken in one run, and the subject that this is.
+RUNS = {"world": "world run", "live": "live run"}
 FIFO, UNORDERED = 0, 1
 # Of each call its number, and what its fields are: a, b, c and d are numbers, x is bytes of which
 # the first goes into d, l is a choice of a line, and s a set of processes.
@@ -44,10 +50,20 @@ CALLS = {
     "keep": (20, "s"),
     "note": (21, "bcd"),
     "bar": (22, "ab"),
+    "cut": (23, "lll"),
+    "forget": (24, "c"),
+    "forget_live": (25, ""),
+    "flags": (26, ""),
+    "counts": (27, ""),
+    "copy_state": (28, "x"),
 }
+# The calls that are no steps: a run has them not.
+NO_STEPS = ("plan", "forget", "forget_live")
 # How many bits each of the four numbers has, and where they lie in a word.
 ROOM = {"a": (8, 48), "b": (8, 40), "c": (20, 20), "d": (20, 0)}
 MOST_PROCESSES = 8
+# The commands of a made script that are calls.
+MADE = "send deliver check begin turn damage bar recover forget forget_live".split()
 
 
 class Row(NamedTuple):
@@ -59,9 +75,9 @@ class Row(NamedTuple):
     kind: int
     calls: list[str]
 
-    def words(self) -> list[str]:
-        """The words for the program."""
-        first = [SUBJECTS[self.subject], self.n, self.kind]
+    def words(self, before: int, after: int) -> list[str]:
+        """The words for the program, which asks for memory so often before and after the calls."""
+        first = [SUBJECTS[self.subject], self.n, self.kind, before, after]
         return [str(it) for it in first + [word_of(it) for it in self.calls]]
 
 
@@ -111,6 +127,10 @@ DOMINO = (
     "send,0,1,61 / recv,1,0,0,0 / check,1,b1 / send,1,0,62 / recv,0,1,0,0 / check,0,a1"
     " / send,0,1,63 / recv,1,0,0,1 / check,1,b2"
 )
+ROUNDS = (
+    "begin,0,a1 / send,0,1,61 / deliver,0,1,0,b1 / deliver,0,1,0, / send,1,0,62 / deliver,1,0,0,"
+    " / deliver,1,0,0, / check,1,b2 / begin,1,b3 / deliver,1,0,0,a2 / deliver,0,1,0, / send,0,1,63"
+)
 SNAPSHOT = (
     "begin,0,a1 / deliver,0,1,0,b1 / deliver,1,0,0, / send,0,1,61 / deliver,0,1,0, / check,1,b2"
     " / send,1,0,62 / deliver,1,0,0, / check,0,a2 / send,0,1,63 / deliver,0,1,0, / check,1,b3"
@@ -119,7 +139,8 @@ SNAPSHOT = (
 ROWS = [
     row("a history is made, asked and copied", "tapes", 2, 0,
         f"{DOMINO} / transit,now,now / transit,0,1 / copy / copy_tape,0 / copy_tape,1"
-        " / reserve,0,9 / reserve,1,1 / copy / checked,0,1,a2 / mark,1,0,1 / copy"),
+        " / reserve,0,9 / reserve,1,1 / copy / checked,0,1,a2 / mark,1,0,1 / copy / flags / counts"
+        " / copy_state,a1"),
     row("marks are made and copied", "tapes", 3, 0,
         "check,0,a1 / damage,0,1 / damage,1,4 / copy_marks / damage,0,2 / damage,0,3"
         " / damage,0,1 / damage,2,0 / damage,0,4 / damage,0,5 / copy_marks"),
@@ -135,11 +156,26 @@ ROWS = [
     row("a catalogue is fed, and made of a history", "catalogue", 2, 0,
         f"{DOMINO} / plan,0 / of / transit,now,now / transit,0,1 / plan,1 / damage,1,2 / plan,1"
         " / of / reserve,0,3 / send,0,1,64 / send,0,1,65 / check,0,a3 / of / plan"),
+    row("a catalogue is cut at lines of checks", "catalogue", 2, 0,
+        f"{DOMINO} / cut,0,0 / cut,1,1 / cut,now,1 / send,0,1,64 / check,0,a2 / cut,2,2"
+        " / damage,1,2 / recv,1,0,0,2 / check,1,b3 / cut,2,1 / cut,2,3 / cut,2,9 / cut,1,2"),
+    row("three are cut where messages are in transit", "catalogue", 3, 0,
+        "send,0,1,61 / send,1,2,62 / send,2,0,63 / check,0,a1 / check,1,b1 / check,2,c1"
+        " / recv,1,0,0,0 / recv,2,1,0,0 / recv,0,2,0,0 / cut,1,1,1 / cut,0,0,0 / cut,1,0,1"
+        " / check,1,b2 / cut,1,2,1 / check,2,c2 / check,0,a2 / cut,2,2,2 / damage,0,1 / cut,1,2,1"),
     row("a catalogue goes on from its line", "catalogue", 2, 0,
         f"{DOMINO} / damage,0,1 / restart,1 / send,0,1,61 / of / plan,0,1 / keep,0"
         " / send,0,1,62 / check,1,b4 / of / transit,now,0 / keep / plan,1 / of"),
     row("marks of rounds in a catalogue", "catalogue", 3, 0,
         "checked,0,1,a1 / mark,1,0,1 / checked,1,1,b1 / mark,2,0,1 / checked,2,1, / of / plan,2"),
+    row("reports, plans and recoveries", "collection", 2, 0,
+        f"{DOMINO} / plan,0 / damage,1,2 / plan,1 / recover,1 / send,0,1,64 / recv,1,0,0,0"
+        " / check,1,b3 / bar,0,0 / recover / send,0,1,65 / check,0,a2 / recv,1,0,1,0"
+        " / recover,0,1"),
+    row("reports that are refused, and rounds", "collection", 3, 0,
+        "checked,0,1,a1 / mark,1,0,1 / checked,1,1,b1 / mark,2,0,1 / checked,2,1, / send,0,1,61"
+        " / recv,1,0,1,0 / recv,1,2,0,0 / recv,1,0,0,0 / recv,1,0,0,0 / damage,0,0 / damage,0,4"
+        " / damage,0,1 / damage,0,1 / bar,0,9 / bar,2,1 / bar,2,1 / plan,1 / recover,2 / plan"),
     row("a round, dominoes and a recovery", "world", 2, FIFO,
         f"{SNAPSHOT} / plan,0 / recover,0 / send,0,1,64 / deliver,0,1,0,"),
     row("the same, and a damaged check", "world", 2, FIFO, f"{SNAPSHOT} / damage,1,1 / recover,0"),
@@ -163,6 +199,26 @@ ROWS = [
     row("refusals in a world", "world", 2, UNORDERED,
         "send,0,0,61 / send,2,0,61 / deliver,0,1,0, / send,0,1,61 / deliver,0,1,1, / turn,0,"
         " / begin,0, / begin,1, / damage,0,0 / damage,0,1 / damage,0,1 / damage,0,2"),
+    row("rounds are forgotten, and then a recovery", "live", 2, FIFO,
+        f"{ROUNDS} / plan / forget,1 / plan / send,0,1,64 / deliver,0,1,0, / check,1,b4"
+        " / forget,2 / plan,0 / damage,1,3 / damage,1,4 / recover,0 / send,0,1,65 / deliver,0,1,0,"
+        " / plan,1"),
+    row("the line of a recovery is forgotten", "live", 2, FIFO,
+        f"{SNAPSHOT} / forget_live / plan / send,1,0,64 / deliver,1,0,0, / check,0,a4 / check,1,b4"
+        " / forget_live / bar,1,2 / plan,1 / recover,1 / send,0,1,65 / forget_live / recover,0"
+        " / begin,1,b5 / deliver,1,0,0,a5 / deliver,0,1,0, / forget,2 / forget_live"),
+    row("refusals to forget", "live", 2, FIFO,
+        "forget,1 / begin,0,a1 / forget,1 / forget_live / deliver,0,1,0,b1 / forget,1"
+        " / deliver,1,0,0, / forget,2 / damage,0,1 / forget,1 / forget_live / bar,1,0 / forget_live"
+        " / recover / forget,1"),
+    row("links without order are not forgotten", "live", 2, UNORDERED,
+        "send,0,1,61 / forget,1 / forget_live / check,0,a1 / recover,0,1 / deliver,0,1,0, / plan"),
+    row("three forget what is in their channels", "live", 3, FIFO,
+        "send,1,0,78 / send,2,1,79 / begin,0,a1 / deliver,1,0,0, / deliver,0,1,0,b1"
+        " / deliver,0,2,0,c1 / deliver,1,0,0, / deliver,2,1,0, / deliver,2,1,0, / deliver,1,2,0,"
+        " / deliver,2,0,0, / send,0,2,7a / forget,1 / plan,1 / recover,1,2 / deliver,0,2,0,"
+        " / begin,2,c2 / deliver,2,0,0,a2 / deliver,2,1,0,b2 / deliver,0,1,0, / deliver,0,2,0,"
+        " / deliver,1,0,0, / deliver,1,2,0, / forget,2 / send,0,2,80 / forget_live / recover,0,2"),
     fleet("a fleet from its opening to the next generation", 2, 4,
         "check,0,01 / report,0 / take,9 / live / send,0,1,61 / receive,1,0, / check,1,02"
         " / gather,0 / plan / restart / send,0,1,62 / receive,1,0, / report,0 / report,1"
@@ -187,17 +243,23 @@ ROWS = [
 
 
 def runs_of(rows: list[Row]) -> Iterator[Row]:
-    """Of each world's row that its steps make, one that takes them in one run."""
+    """Of each row with steps one that takes these in one run."""
     for it in rows:
-        if it.subject == "world":
-            steps = [call for call in it.calls if not call.startswith("plan")]
-            yield it._replace(name=f"{it.name}, in one run", subject="run", calls=steps)
+        if it.subject in RUNS:
+            steps = [call for call in it.calls if call.split(",")[0] not in NO_STEPS]
+            name = f"{it.name}, in one run"
+            yield it._replace(name=name, subject=RUNS[it.subject], calls=steps)
+
+
+def call_of(record: str) -> str:
+    """A record of a script as a call: a `forget` without a round has another name."""
+    return "forget_live" if record == "forget" else record
 
 
 def is_call(record: str, n: int) -> bool:
     """Whether a record of a script is a call whose numbers fit in a word."""
     name, *fields = record.split(",")
-    if name not in ("send", "deliver", "check", "begin", "turn", "damage", "bar", "recover"):
+    if name not in MADE:
         return False
     form = CALLS[name][1]
     if form == "s":
@@ -215,9 +277,10 @@ def made_worlds(cases: int, seed: int) -> Iterator[Row]:
         if len(fields) != 4 or not fields[2].isdigit() or not 0 < int(fields[2]) <= MOST_PROCESSES:
             continue
         n = int(fields[2])
-        calls = [it for it in records if is_call(it, n)]
+        calls = [it for it in map(call_of, records) if is_call(it, n)]
         kind = UNORDERED if fields[3] == "unordered" else FIFO
-        yield Row(f"made script {case}", "world", n, kind, calls)
+        lets_go = any(it.startswith("forget") for it in calls)
+        yield Row(f"made script {case}", "live" if lets_go else "world", n, kind, calls)
 
 
 def some_work(chance: random.Random, n: int) -> str:

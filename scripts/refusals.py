@@ -25,12 +25,14 @@ SCRIPT = {
     **dict.fromkeys(["check", "begin", "turn"], "Scripts.with_state"),
     **dict.fromkeys(["damage", "bar"], "Scripts.with_check"),
     **dict.fromkeys(["recover", "bundle", "plan", "answer"], "Scripts.with_failed"),
-    **dict.fromkeys(["rounds", "history", "live"], "Shapes.alone"),
+    **dict.fromkeys(["rounds", "history", "live", "save"], "Shapes.alone"),
+    "forget": "Scripts.forget_of",
 }
 # Views that tell what a recovery would be answered; of these, one that names no process.
 VIEWS, OF_ALL_PROCESSES = dict.fromkeys(["plan", "live", "answer"], "recover"), {"live"}
 CHECK_TEXT = {
-    "history": "Histories.head_in", "tape": "Histories.tape_of",
+    "history": "Histories.head_in", "floor": "Histories.one_floor_more",
+    "tape": "Histories.tape_of",
     "send": "Events.send_event_of", "recv": "Events.recv_event_of",
     "check": "Events.check_event_of", "mark": "Events.mark_event_of",
     "damage": "Entries.damage_of", "bar": "Entries.bar_of", "failed": "Entries.failed_of",
@@ -180,7 +182,10 @@ def lines_reached(reader: str) -> str:
 def asked() -> dict[str, list[str]]:
     """The refusals of each command, in the order of asking: those of its record come first."""
     found, steps = {}, asked_in_steps()
+    # The causes stand in the order of asking.
+    steps["forget"] = [it.name for it in refusals() if it.error == "ForgetError" and it.number]
     of_records = [it.name for it in refusals() if it.error == "Fault"]
+    steps["save"] = [it for it in steps["forget"] if it in ("WrongMode", "RoundOpen")]
     for command, reader in SCRIPT.items():
         said = set(re.findall(r"refused(?:_command)? faults\.(\w+)", lines_reached(reader)))
         first = sorted(said, key=of_records.index)

@@ -26,9 +26,8 @@ from collections.abc import Iterator
 from typing import NamedTuple
 
 import instructions
-import preloaded
 
-from .runs import head, memory, row
+from .runs import add_program, head, memory, program_of, row
 from .runs import timed as timed_run
 
 PROCESSES, FAILED = 8, 3
@@ -131,7 +130,7 @@ def counted(program: str, texts: list[Text]) -> float:
 
 def add_words(words: argparse.ArgumentParser) -> None:
     """Adds the words of this job to those that are read."""
-    words.add_argument("--program", type=pathlib.Path, help="the program, as ./recline builds it")
+    add_program(words)
     words.add_argument("--events", type=int, default=1_000_000, help="of the history (1,000,000)")
     words.add_argument("--replays", type=int, default=100_000, help="in transit (100,000)")
     words.add_argument("--runs", type=int, default=5, metavar="K", help="how often each is run (5)")
@@ -141,7 +140,7 @@ def add_words(words: argparse.ArgumentParser) -> None:
 
 def run(asked: argparse.Namespace) -> int:
     """Measures, and answers the status."""
-    program = str(asked.program.resolve()) if asked.program else preloaded.built_program()
+    program = program_of(asked)
     with tempfile.TemporaryDirectory(prefix="recline-answers-") as folder:
         texts = texts_in(pathlib.Path(folder), program, asked.events, asked.replays)
         for text in texts:

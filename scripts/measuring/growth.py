@@ -52,10 +52,8 @@ import instructions
 import workspace
 
 from .families import FAMILIES, PLANS, Family, idle
-from .runs import row, some_of
+from .runs import Program, add_program, program_of, row, some_of
 
-TOP = workspace.ROOT
-BUILT = TOP / "crates/line_cli/out/line_cli"
 MOST_INPUT = 67_108_864
 # What bench/plan_growth stands on.
 STANDS_ON = "line_names line_tape line_catalogue line_plan".split()
@@ -90,7 +88,7 @@ print(used.ru_utime + used.ru_stime, used.ru_maxrss, written, status)
 """
 
 
-def measured(program: pathlib.Path, asked: list[str], path: pathlib.Path, limit: int) -> Figures:
+def measured(program: Program, asked: list[str], path: pathlib.Path, limit: int) -> Figures:
     """Runs the program on a text, from a file to nowhere; the limit is in seconds."""
     words = [sys.executable, "-I", "-S", "-c", RUN_ALONE, str(limit), str(program), *asked]
     with open(path, "rb") as source:
@@ -125,7 +123,7 @@ def exponent(before: tuple[int, float] | None, length: int, now: float, least: f
 
 
 def measure_family(
-    program: pathlib.Path, name: str, sizes: list[int], limit: int, folder: pathlib.Path
+    program: Program, name: str, sizes: list[int], limit: int, folder: pathlib.Path
 ) -> None:
     """Prints the rows of a family, up to the first run that is stopped."""
     before: tuple[int, float] | None = None
@@ -148,7 +146,7 @@ def measure_family(
 
 
 def count_family(
-    program: pathlib.Path,
+    program: Program,
     tool: instructions.Tool,
     name: str,
     sizes: list[int],
@@ -171,7 +169,7 @@ def count_family(
         before = length, count
 
 
-def took_recovery(program: pathlib.Path, paths: list[pathlib.Path], limit: int) -> float | None:
+def took_recovery(program: Program, paths: list[pathlib.Path], limit: int) -> float | None:
     """The microseconds of a recovery, from the texts without and with them; none where stopped."""
     without, with_them = (measured(program, ["run"], it, limit) for it in paths)
     if without.status or with_them.status > 0:
@@ -181,7 +179,7 @@ def took_recovery(program: pathlib.Path, paths: list[pathlib.Path], limit: int) 
 
 
 def measure_recoveries(
-    program: pathlib.Path, n: int, events: int, runs: int, limit: int, folder: pathlib.Path
+    program: Program, n: int, events: int, runs: int, limit: int, folder: pathlib.Path
 ) -> None:
     """Prints what a recovery takes in a history of n processes, and after so many events."""
     row(["links", "events before", "recoveries", "least us", "median us", "greatest us"])
@@ -205,7 +203,7 @@ def measure_recoveries(
 
 
 def measure_plans(
-    program: pathlib.Path, tool: instructions.Tool | None, name: str, sizes: list[int], limit: int
+    program: Program, tool: instructions.Tool | None, name: str, sizes: list[int], limit: int
 ) -> None:
     """Prints the rows of a job, with the instructions where there is a tool to count them."""
     nothing = pathlib.Path(os.devnull)
@@ -230,7 +228,7 @@ def measure_plans(
 def add_words(words: argparse.ArgumentParser) -> None:
     """Adds the words of this job to those that are read."""
     add = words.add_argument
-    add("--program", type=pathlib.Path, default=BUILT, help="the program, as ./recline builds it")
+    add_program(words)
     names = ",".join(FAMILIES)
     add("--families", type=some_of(FAMILIES), default=list(FAMILIES), help=f"some of {names} (all)")
     add("--most", type=int, help="the greatest size of each family, where its own is greater")
@@ -275,9 +273,7 @@ def run(asked: argparse.Namespace) -> int:
     if asked.plans:
         plans(asked, tool)
         return 0
-    program = asked.program.resolve()
-    if not os.access(program, os.X_OK):
-        sys.exit(f"{program} is no program; ./recline builds one")
+    program = program_of(asked)
     with tempfile.TemporaryDirectory() as made:
         folder = asked.keep or pathlib.Path(made)
         folder.mkdir(parents=True, exist_ok=True)

@@ -45,13 +45,10 @@ from concurrent.futures import ThreadPoolExecutor
 from typing import NamedTuple
 
 import instructions
-import workspace
 from made_inputs import INPUTS
 
-from .runs import head, held, row, some_of, timed
+from .runs import Program, add_program, found_at, head, held, program_of, row, some_of, timed
 
-TOP = workspace.ROOT
-BUILT = TOP / "crates/line_cli/out/line_cli"
 SIZES = {"S": 10_000, "M": 1_000_000}
 RUNS = {"S": 15, "M": 5}
 
@@ -103,7 +100,7 @@ def inputs(asked: argparse.Namespace, folder: pathlib.Path) -> Iterator[Input]:
 # Measuring.
 
 
-def answer(program: pathlib.Path, text: Input) -> tuple[int, str]:
+def answer(program: Program, text: Input) -> tuple[int, str]:
     """The status, and a digest of the output."""
     with open(text.path, "rb") as source:
         ran = subprocess.run(
@@ -112,7 +109,7 @@ def answer(program: pathlib.Path, text: Input) -> tuple[int, str]:
     return ran.returncode, hashlib.sha256(ran.stdout).hexdigest()
 
 
-def measure(programs: Sequence[pathlib.Path], text: Input) -> list[tuple[float, ...]]:
+def measure(programs: Sequence[Program], text: Input) -> list[tuple[float, ...]]:
     """For each program three times in milliseconds, and the memory.
 
     The times are the medians, from start to end and of the processor, and the shortest of the
@@ -134,7 +131,7 @@ def measure(programs: Sequence[pathlib.Path], text: Input) -> list[tuple[float, 
     ]
 
 
-def count(program: pathlib.Path, tool: instructions.Tool, text: Input) -> list[float]:
+def count(program: Program, tool: instructions.Tool, text: Input) -> list[float]:
     """What the tool counts for a record, then the memory, and the thousands of pages."""
     counts = instructions.all_counted(tool, [str(program), text.command], text.path)
     if counts is None:
@@ -144,7 +141,7 @@ def count(program: pathlib.Path, tool: instructions.Tool, text: Input) -> list[f
 
 
 def counted(
-    programs: Sequence[pathlib.Path], tool: instructions.Tool, texts: Iterator[Input]
+    programs: Sequence[Program], tool: instructions.Tool, texts: Iterator[Input]
 ) -> Iterator[tuple[Input, list[list[float]]]]:
     """Each input with what each program takes of it; one runs at once for each processor."""
     made = list(texts)
@@ -154,7 +151,7 @@ def counted(
             yield text, [it.result() for it in futures]
 
 
-def print_times(programs: Sequence[pathlib.Path], texts: Iterator[Input]) -> None:
+def print_times(programs: Sequence[Program], texts: Iterator[Input]) -> None:
     """Prints the table of times."""
     times = ["time ms", "processor ms", "shortest ms", "memory MB"]
     columns = ["input", "records", "MB", *times, "status"]
@@ -177,7 +174,7 @@ def print_times(programs: Sequence[pathlib.Path], texts: Iterator[Input]) -> Non
         row(cells)
 
 
-def print_counts(programs: Sequence[pathlib.Path], texts: Iterator[Input]) -> None:
+def print_counts(programs: Sequence[Program], texts: Iterator[Input]) -> None:
     """Prints the table of counts: a cell has those of the programs, and the ratio of two."""
     tool = instructions.tool_at_hand()
     if tool is None:
@@ -199,9 +196,7 @@ def print_counts(programs: Sequence[pathlib.Path], texts: Iterator[Input]) -> No
 
 def add_words(words: argparse.ArgumentParser) -> None:
     """Adds the words of this job to those that are read."""
-    words.add_argument(
-        "--program", type=pathlib.Path, default=BUILT, help="the program, as ./recline builds it"
-    )
+    add_program(words)
     words.add_argument(
         "--other", type=pathlib.Path, help="a program that answers `run` and `check` alike"
     )
@@ -223,10 +218,7 @@ def add_words(words: argparse.ArgumentParser) -> None:
 
 def run(asked: argparse.Namespace) -> int:
     """Makes the inputs, and measures the programs on them."""
-    programs = [path.resolve() for path in [asked.program, asked.other] if path]
-    for program in programs:
-        if not os.access(program, os.X_OK):
-            sys.exit(f"{program} is no program; ./recline builds one")
+    programs = [program_of(asked), *([found_at(asked.other)] if asked.other else [])]
     with tempfile.TemporaryDirectory() as made:
         folder = asked.keep or pathlib.Path(made)
         folder.mkdir(parents=True, exist_ok=True)

@@ -25,11 +25,10 @@ from collections.abc import Iterable, Iterator
 from typing import NamedTuple
 
 import instructions
-import preloaded
 from made_inputs import ring
 
 from . import runs
-from .runs import head, memory, row
+from .runs import add_program, head, memory, program_of, row
 
 
 class Text(NamedTuple):
@@ -128,7 +127,7 @@ def table(program: str, made: list[Text], asked: argparse.Namespace) -> None:
 def add_words(words: argparse.ArgumentParser) -> None:
     """Adds the words of this job to those that are read."""
     add = words.add_argument
-    add("--program", help="the program, as ./recline builds it")
+    add_program(words)
     add("--records", type=int, default=1_000_000, metavar="N", help="of a text (1000000)")
     add("--processes", type=int, default=16, metavar="P", help="in the ring (16)")
     add("--runs", type=int, default=7, metavar="K", help="of a text (7)")
@@ -138,8 +137,7 @@ def add_words(words: argparse.ArgumentParser) -> None:
 
 def run(asked: argparse.Namespace) -> int:
     """Prints what is asked for."""
-    program = str(pathlib.Path(asked.program).resolve()) if asked.program else ""
-    program = program or preloaded.built_program()
+    program = program_of(asked)
     with tempfile.TemporaryDirectory(prefix="recline-measures-") as made:
         table(program, list(texts(pathlib.Path(made), asked.records, asked.processes)), asked)
     return 0

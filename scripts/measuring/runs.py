@@ -9,6 +9,8 @@ import time
 from collections.abc import Callable, Collection, Iterable
 from typing import NamedTuple
 
+import preloaded
+
 MB = 1_000_000
 # Runs a program alone, in a process that itself has little, and tells its greatest memory in KiB,
 # and how many pages it touched first.
@@ -21,6 +23,24 @@ print(used.ru_maxrss, used.ru_minflt)
 """
 # A program, or the text of its path.
 Program = str | os.PathLike[str]
+
+
+def add_program(words: argparse.ArgumentParser) -> None:
+    """Adds the word that names the program to measure."""
+    words.add_argument("--program", type=pathlib.Path, help="the program, as ./recline builds it")
+
+
+def found_at(path: pathlib.Path) -> str:
+    """The program that stands there; where none does, that ends all."""
+    program = path.resolve()
+    if not os.access(program, os.X_OK):
+        sys.exit(f"{program} is no program; ./recline builds one")
+    return str(program)
+
+
+def program_of(asked: argparse.Namespace) -> str:
+    """The program that the words name, or that of the repository, which is built if need be."""
+    return found_at(asked.program) if asked.program else preloaded.built_program()
 
 
 class Took(NamedTuple):

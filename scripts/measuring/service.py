@@ -38,7 +38,7 @@ from conversations import Conversation
 from made_inputs import INPUTS
 
 from . import runs
-from .runs import MB, head, memory, row, some_of
+from .runs import MB, add_program, head, memory, program_of, row, some_of
 
 PARTS = ["pipelined", "trips", "long"]
 TEXTS = [name for name, (_, command) in INPUTS.items() if command == "run"]
@@ -316,7 +316,7 @@ def table_of_long(program: str, records: int) -> None:
 def add_words(words: argparse.ArgumentParser) -> None:
     """Adds the words of this job to those that are read."""
     add = words.add_argument
-    add("--program", help="the program, as ./recline builds it")
+    add_program(words)
     add("--parts", type=some_of(PARTS), default=PARTS, help="which tables (all)")
     add("--inputs", type=some_of(TEXTS), default=TEXTS, help="which texts (all)")
     add("--records", type=int, default=500_000, metavar="N", help="of a text (500000)")
@@ -329,8 +329,7 @@ def add_words(words: argparse.ArgumentParser) -> None:
 
 def run(asked: argparse.Namespace) -> int:
     """Prints the tables that are asked for."""
-    program = str(pathlib.Path(asked.program).resolve()) if asked.program else ""
-    program = program or preloaded.built_program()
+    program = program_of(asked)
     with tempfile.TemporaryDirectory(prefix="recline-measures-") as made:
         folder = pathlib.Path(made)
         if "pipelined" in asked.parts:

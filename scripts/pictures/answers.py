@@ -43,10 +43,14 @@ def sends_of(claim: Claim) -> dict[Name, Replay]:
     found = {}
     for p, tape in enumerate(claim.history.tapes):
         sends = [(place, event) for place, event in enumerate(tape) if isinstance(event, Send)]
-        for number, (place, send) in enumerate(sends):
-            name = Name(p, send.incarnation, number)
-            found[name] = Replay(name, send.to, place, send.body)
+        for (name, to), (place, send) in zip(claim.history.sent(p), sends):
+            found[name] = Replay(name, to, place, send.body)
     return found
+
+
+def at_place(claim: Claim, place: int) -> str:
+    """The place of a send, which is told of what is kept alone."""
+    return f"at place {place}" + (" of what is kept" if claim.history.floors else "")
 
 
 def goes_on(claim: Claim, p: int, start: Start) -> str:
@@ -77,7 +81,7 @@ def reason(claim: Claim, replay: Replay) -> str:
     sender, to = replay.message.sender, replay.to
     start, end = claim.line[sender], claim.line[to]
     before = "" if start == NOW else f" before {words.choice_of(start)},"
-    sent = f"{words.process(sender)} sent it{before} at place {replay.place}"
+    sent = f"{words.process(sender)} sent it{before} {at_place(claim, replay.place)}"
     goes = "stays where it stands" if end == NOW else f"goes back to {words.choice_of(end)}"
     there = "" if end == NOW else " there"
     got = f"{words.process(to)}, which {goes}, has not received it{there}"
@@ -101,7 +105,7 @@ def wrong_replay(claim: Claim, i: int, code: str, sends: dict[Name, Replay]) -> 
     if code == "ReplayDiffers":
         pairs = [
             (f"goes to {words.process(replay.to)}", f"to {words.process(right.to)}"),
-            (f"is sent at place {replay.place}", f"at place {right.place}"),
+            (f"is sent {at_place(claim, replay.place)}", f"at place {right.place}"),
             (f"has the body {replay.body.hex() or '-'}", f"the body {right.body.hex() or '-'}"),
         ]
         said, would_be = next(pair for pair, one, other in zip(pairs, replay[1:], right[1:])

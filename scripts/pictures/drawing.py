@@ -49,6 +49,9 @@ def story_of(path: str, text: bytes, with_plan: bool = False) -> stories.Story:
         if not output:
             raise program.Fault(program.FAULT)
         return stories.told(*reports.read(text, output, with_plan))
+    if texts.begins_saved(text):
+        told = "a script that begins with a saved machine is not shown: its beginning is gone"
+        raise program.Fault(program.FAULT, told)
     output = program.answer(path, "run", text)
     return stories.told(texts.read_script(text), texts.read_replies(output))
 

@@ -22,6 +22,7 @@ ANSWERS = {
     "recovered",
     "planned",
     "rounds",
+    "forgot",
     "history",
     "refused",
 }  # the first records of replies
@@ -44,6 +45,11 @@ class Script(NamedTuple):
     processes: int
     is_fifo: bool | None
     commands: list[Command]
+
+
+def begins_saved(text: bytes) -> bool:
+    """Whether a script begins with a machine that was saved."""
+    return text.lstrip(b"\r\n").startswith(b"history,")
 
 
 def read_script(text: bytes) -> Script:

@@ -1,10 +1,13 @@
-"""A check text in sentences: what is claimed, what each entry says, and what is wrong with it."""
+"""A check text in sentences: what is claimed, what each entry says, and what is wrong with it.
+
+Where the beginning of the history was let go, all is told by the numbers of the whole.
+"""
 
 from collections.abc import Iterator
 from dataclasses import dataclass
 
 from slow_model.claims import Claim
-from slow_model.histories import Check, Entry, Name, Recv, Send
+from slow_model.histories import Check, Entry, Floor, Name, Recv, Send
 from slow_model.texts import NOW
 
 from . import answers, sentences, words
@@ -15,13 +18,14 @@ MOST_NAMED = 6  # so many messages are listed
 
 @dataclass(frozen=True)
 class Tape:
-    """What is asked of a tape: where its checks stand, its sends by number, and its receipts.
+    """What is asked of a tape: where its checks and its sends stand, and its receipts.
 
-    `bar` is the check that the process is barred at, or NOW.
+    `first` is its least choice, and `bar` the check that the process is barred at, or NOW.
     """
 
+    first: int
     checks: tuple[int, ...]
-    sends: tuple[tuple[int, Name], ...]
+    sends: dict[Name, int]
     receipts: tuple[tuple[int, Name], ...]
     surviving: tuple[Choice, ...]
     bar: Choice
@@ -30,15 +34,11 @@ class Tape:
         """How many events stand before a choice that the tape has."""
         if choice == NOW:
             return NOW
-        return self.checks[int(choice) - 1] if choice else 0
+        return (0, *self.checks)[int(choice) - self.first]
 
     def sent(self, name: Name, choice: Choice) -> bool:
         """Whether a message of this process is sent before a choice."""
-        return (
-            name.number < len(self.sends)
-            and self.sends[name.number][1] == name
-            and (self.sends[name.number][0] <= self.place(choice))
-        )
+        return name in self.sends and self.sends[name] <= self.place(choice)
 
     def received(self, choice: Choice) -> list[Name]:
         """The messages that are received before a choice."""
@@ -52,18 +52,16 @@ class Tape:
 def tapes_of(claim: Claim) -> list[Tape]:
     """The tapes of a claim's history."""
     found = []
-    for p, events in enumerate(claim.history.tapes):
+    history = claim.history
+    for p, events in enumerate(history.tapes):
         placed = list(enumerate(events, 1))
         checks = tuple(place for place, it in placed if isinstance(it, Check))
-        sends = [(place, it) for place, it in placed if isinstance(it, Send)]
-        named = tuple(
-            (place, Name(p, it.incarnation, number)) for number, (place, it) in enumerate(sends)
-        )
+        places = [place for place, it in placed if isinstance(it, Send)]
+        sends = {name: place for (name, _), place in zip(history.sent(p), places)}
         receipts = tuple((place, it.message) for place, it in placed if isinstance(it, Recv))
-        later = [*range(1, len(checks) + 1), *(() if p in claim.failed else (NOW,))]
-        surviving = (0, *(choice for choice in later if claim.marks.allow(p, choice)))
+        surviving = tuple(history.surviving(claim.marks, claim.failed, p))
         bar = claim.marks.bars.get(p, NOW)
-        found.append(Tape(checks, named, receipts, surviving, bar))
+        found.append(Tape(history.first(p), checks, sends, receipts, surviving, bar))
     return found
 
 
@@ -117,7 +115,10 @@ def entries(
 
 
 def claimed(claim: Claim) -> Iterator[str]:
-    """Who failed, what is damaged, who is barred, and the line."""
+    """What was let go, who failed, what is damaged, who is barred, and the line."""
+    gone = [let_go(p, floor) for p, floor in enumerate(claim.history.floors) if any(floor)]
+    if gone:
+        yield words.capital(f"{words.listed(gone)}. All numbers are those of the whole history.")
     failed = sorted(claim.failed)
     parts = [f"{words.processes(failed)} failed" if failed else "nobody failed"]
     by_process: dict[int, list[int]] = {}
@@ -133,6 +134,17 @@ def claimed(claim: Claim) -> Iterator[str]:
     ]
     line = f"The latest line that can be gone on from is then {words.listed(stands)}."
     yield f"The claim: {words.listed(parts)}. {line}"
+
+
+def let_go(p: int, floor: Floor) -> str:
+    """What is let go of a process."""
+    parts = []
+    if floor.sends:
+        count = "message" if floor.sends == 1 else f"{floor.sends:,} messages"
+        parts.append(f"its first {count}")
+    if floor.check:
+        parts.append(f"what was before its checkpoint {floor.check}")
+    return f"{words.process(p)} has let go {words.listed(parts)}"
 
 
 # What is wrong.
@@ -222,7 +234,7 @@ def misshapen(claim: Claim) -> str:
             f"the claimed line has {words.counted(len(claim.line), 'choice')}, and the history has "
             f"{words.counted(count, 'process', 'processes')}"
         )
-    checks = [len([it for it in tape if isinstance(it, Check)]) for tape in history.tapes]
+    checks = [history.checks(p) for p in history.processes()]
     named = [("said to be damaged", p, check) for p, check in sorted(claim.marks.damaged)]
     named += [("said to be a bar", p, check) for p, check in sorted(claim.marks.bars.items())]
     named += [("in the line", p, choice) for p, choice in enumerate(claim.line)]

@@ -90,7 +90,7 @@ class BeginsAnew(Service):
 
     def record(self, fields: list[str]) -> tuple[Records, int]:
         if fields[0] == self.first:
-            self.forget()
+            self.drop()
         return super().record(fields)
 
 

@@ -4,14 +4,15 @@ from collections.abc import Callable, Iterator, Sequence
 from dataclasses import dataclass, field
 from typing import Any, NamedTuple
 
-from .histories import Check, Entry, Event, History, Line, Mark, Marks, Name, Recv, Send
+from .histories import Check, Entry, Event, Floor, History, Line, Mark, Marks, Name, Recv, Send
 from .texts import (
-    MOST_BODY, MOST_EVENTS, MOST_STATE, NAMES, NOW, Answer, Fault, Record, choice, fields_of,
-    first_record, hexadecimal, incarnation, most_in, number, numbered, records_of, round_number,
-    round_or_none, state_or_none, told, want, written,
+    MOST_BODY, MOST_EVENTS, MOST_STATE, NAMES, NOW, OF_FORGET, Answer, Fault, Record, choice,
+    fields_of, first_record, hexadecimal, incarnation, most_in, number, numbered, records_of,
+    round_number, round_or_none, state_or_none, told, want, written,
 )
 
 READERS: dict[str, list[Callable[[str], Any]]] = {
+    "floor": [number, number, number],
     "tape": [number, incarnation],
     "send": [number, incarnation, hexadecimal],
     "recv": [number, incarnation, number],
@@ -45,7 +46,7 @@ class Claim:
     """That a line is the latest of a history, for some marks and a failed set.
 
     The entries show it. A whole answer has a start for each process, and the messages that are sent
-    again; a claim of versions 1 and 2 has neither.
+    again; a claim of versions 1 and 2 has neither. All numbers are those of the whole.
     """
     history: History
     marks: Marks = field(default_factory=Marks)
@@ -57,25 +58,25 @@ class Claim:
 
     def version(self) -> int:
         """The version that the claim is written in by itself."""
+        if self.history.floors:
+            return self.history.version()
         if self.starts:
             return 3
         return 2 if self.marks.bars else self.history.version()
 
     def records(self) -> Iterator[Record]:
-        """The check text of the claim, record by record."""
+        """The check text of the claim, record by record, with the numbers of what is kept."""
+        choice_of, name_of = self.history.kept_choice, self.history.kept_name
         yield from self.history.records(self.version())
-        for p, check in sorted(self.marks.damaged):
-            yield "damage", p, check
-        for p, check in sorted(self.marks.bars.items()):
-            yield "bar", p, check
+        yield from mark_records(self.history, self.marks)
         yield "failed", *sorted(self.failed)
-        yield "line", *self.line
+        yield "line", *(choice_of(p, it) for p, it in enumerate(self.line))
         for at, passed, message in self.entries:
-            yield "pass", at, passed, *message
+            yield "pass", at, choice_of(at, passed), *name_of(message)
         for p, start in enumerate(self.starts):
             yield "start", p, *start
         for replay in self.replays:
-            yield "replay", *replay.message, *replay[1:]
+            yield "replay", *name_of(replay.message), *replay[1:]
         yield ("end",)
 
     def has_shape(self) -> bool:
@@ -143,19 +144,31 @@ class Claim:
         return None if given == names else (None, 46)
 
 
+def mark_records(history: History, marks: Marks) -> Iterator[Record]:
+    """The records of damaged checks and of bars, with the numbers of what is kept."""
+    for p, check in sorted(marks.damaged):
+        yield "damage", p, history.kept_choice(p, check)
+    for p, check in sorted(marks.bars.items()):
+        yield "bar", p, history.kept_choice(p, check)
+
+
 class Reading:
     """What was read of a check text among n processes, and the part that its last record is in."""
 
     def __init__(self, version: int, n: int) -> None:
         self.version, self.n, self.part = version, n, "tapes"
         self.claim = Claim(History(0))
-        self.tapes = self.claim.history.tapes
+        self.history = self.claim.history
+        self.tapes = self.history.tapes
 
     def may_stand(self, kind: str) -> bool:
         """Whether a record of this kind may come next."""
         has_all = len(self.tapes) == self.n
+        has_floors = self.version < OF_FORGET or len(self.history.floors) == self.n
+        if kind == "floor":
+            return not has_floors
         if kind == "tape":
-            return self.part == "tapes" and not has_all
+            return self.part == "tapes" and has_floors and not has_all
         if kind in ("send", "recv", "check", "mark"):
             return self.part == "tapes" and len(self.tapes) > 0
         if kind == "damage":
@@ -166,8 +179,10 @@ class Reading:
             return self.part in ("tapes", "damages", "bars") and has_all
         if kind in ("line", "pass"):
             return self.part == {"line": "failed", "pass": "line"}[kind]
+        if kind == "end" and self.version != 3 and self.part == "line":
+            return True
         if self.version < 3:
-            return kind == "end" and self.part == "line"
+            return False
         has_all = len(self.claim.starts) == self.n
         if kind == "start":
             return self.part in ("line", "starts") and not has_all
@@ -197,11 +212,24 @@ class Reading:
         want(len(self.tapes[-1]) < MOST_EVENTS, 3)
         self.tapes[-1].append(event)
 
+    def whole_choice(self, p: int, kept: int) -> int:
+        """A choice by its number in the whole."""
+        return kept if kept == NOW else kept + self.history.first(p)
+
+    def whole_name(self, sender: int, inc: int, count: int) -> Name:
+        """A message by its number in the whole."""
+        return Name(sender, inc, count + self.history.floor(sender).sends)
+
+    def read_floor(self, p: int, check: int, sends: int) -> None:
+        """What the next process has let go."""
+        want(p == len(self.history.floors), 32)
+        self.history.floors.append(Floor(check, sends))
+
     def read_tape(self, p: int, inc: int) -> None:
         """Begins the tape of the next process."""
         want(p == len(self.tapes), 32)
         self.tapes.append([])
-        self.claim.history.incarnations.append(inc)
+        self.history.incarnations.append(inc)
 
     def read_send(self, to: int, inc: int, body: bytes) -> None:
         """A send."""
@@ -212,7 +240,7 @@ class Reading:
     def read_recv(self, sender: int, inc: int, count: int) -> None:
         """A receipt."""
         self.known(sender)
-        self.add(Recv(Name(sender, inc, count)))
+        self.add(Recv(self.whole_name(sender, inc, count)))
 
     def read_check(self, state: bytes, of_round: int | None) -> None:
         """A check."""
@@ -228,15 +256,17 @@ class Reading:
         """A damaged check."""
         self.known(p)
         want(check != 0, 7)
-        want((p, check) not in self.claim.marks.damaged, 8)
-        self.claim.marks.damaged.add((p, check))
+        whole = self.whole_choice(p, check)
+        want((p, whole) not in self.claim.marks.damaged, 8)
+        self.claim.marks.damaged.add((p, whole))
         self.part = "damages"
 
     def read_bar(self, p: int, check: int) -> None:
         """A bar."""
         self.known(p)
-        want(check < self.claim.marks.bars.get(p, NOW), 40)
-        self.claim.marks.bars[p] = check
+        whole = self.whole_choice(p, check)
+        want(whole < self.claim.marks.bars.get(p, NOW), 40)
+        self.claim.marks.bars[p] = whole
         self.part = "bars"
 
     def read_failed(self, *failed: int) -> None:
@@ -247,13 +277,14 @@ class Reading:
 
     def read_line(self, *line: int) -> None:
         """The line."""
-        self.claim.line.extend(line)
+        self.claim.line.extend(self.whole_choice(p, it) for p, it in enumerate(line))
         self.part = "line"
 
     def read_pass(self, at: int, passed: int, sender: int, inc: int, count: int) -> None:
         """An entry of the certificate."""
         self.known(at, sender)
-        self.claim.entries.append(Entry(at, passed, Name(sender, inc, count)))
+        message = self.whole_name(sender, inc, count)
+        self.claim.entries.append(Entry(at, self.whole_choice(at, passed), message))
 
     def read_start(self, p: int, inc: int, state: bytes | None) -> None:
         """Where the next process goes on."""
@@ -268,7 +299,7 @@ class Reading:
         sender, inc, count, to, place, body = fields
         self.known(sender, to)
         want(len(body) <= MOST_BODY, 2)
-        self.claim.replays.append(Replay(Name(sender, inc, count), to, place, body))
+        self.claim.replays.append(Replay(self.whole_name(sender, inc, count), to, place, body))
 
     def read_end(self) -> None:
         """The last record."""

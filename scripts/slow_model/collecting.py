@@ -13,7 +13,7 @@ from .texts import (
 
 STALE_REPORT = 47
 NAMES_DISAGREE = 38
-NAMES.update({STALE_REPORT: "StaleReport", NAMES_DISAGREE: "NamesDisagree"})
+NAMES.update({STALE_REPORT: "StaleReport"})
 READERS: dict[str, list[Callable[[str], Any]]] = {
     "send": [number, incarnation, number, hexadecimal],
     "recv": [number, incarnation, number, incarnation, number],
@@ -102,8 +102,8 @@ class Collecting(Service):
         """Whether the first record has come."""
         return self.collection is not None
 
-    def forget(self) -> None:
-        """Forgets what was collected."""
+    def drop(self) -> None:
+        """Drops what was collected."""
         self.collection = None
 
     def record(self, fields: list[str]) -> tuple[Records, int]:

@@ -1,7 +1,8 @@
 """Histories, lines, what survives, plans, and rounds: the definitions, asked of lists of events.
 
 A choice of a process is the index of a check, 0 for the initial state, or NOW. A line is a list
-of choices, one for each process.
+of choices, one for each process. Checks and messages have the numbers of the whole, also where
+their beginning was let go; texts of version 4 have those of what is kept.
 """
 
 import itertools
@@ -48,6 +49,17 @@ class Mark(NamedTuple):
     round: int
 
 
+class Floor(NamedTuple):
+    """The check that a process begins with, or 0, and how many of its first sends are let go."""
+    check: int
+    sends: int
+
+    @property
+    def lost_checks(self) -> int:
+        """How many checks are let go: those before the one that it begins with."""
+        return max(self.check - 1, 0)
+
+
 class Entry(NamedTuple):
     """A choice that is passed over, and a message that would be an orphan there."""
     at: int
@@ -61,6 +73,7 @@ Kind = TypeVar("Kind", Send, Recv, Check, Mark)
 Item = Name | Marker
 # A choice for each process.
 Line = list[int]
+NO_FLOOR = Floor(0, 0)
 
 
 @dataclass
@@ -80,21 +93,35 @@ def among(kind: type[Kind], events: Iterable[Event]) -> list[Kind]:
 
 
 class History:
-    """A tape of events and a present incarnation for each process."""
+    """A tape of events and a present incarnation for each process.
+
+    Where something was let go each process has a floor, and the tapes have what is kept.
+    """
 
     def __init__(self, n: int) -> None:
         self.tapes: list[list[Event]] = [[] for _ in range(n)]
         self.incarnations = [0] * n
+        self.floors: list[Floor] = []
 
     def processes(self) -> range:
         """The numbers of the processes."""
         return range(len(self.tapes))
 
+    # What was let go.
+
+    def floor(self, p: int) -> Floor:
+        """What a process has let go."""
+        return self.floors[p] if p < len(self.floors) else NO_FLOOR
+
+    def first(self, p: int) -> int:
+        """The least choice of a tape: where nothing is let go the initial state."""
+        return self.floor(p).lost_checks
+
     # Choices, and what stands before them.
 
     def checks(self, p: int) -> int:
-        """How many checks a tape has."""
-        return len(among(Check, self.tapes[p]))
+        """The index of a tape's last check."""
+        return self.first(p) + len(among(Check, self.tapes[p]))
 
     def has_choice(self, p: int, choice: int) -> bool:
         """Whether the tape of a process has a choice."""
@@ -105,26 +132,27 @@ class History:
         if choice == NOW:
             return self.tapes[p]
         places = [place for place, event in enumerate(self.tapes[p], 1) if isinstance(event, Check)]
-        return self.tapes[p][:places[choice - 1]] if choice else []
+        return self.tapes[p][:[0, *places][choice - self.first(p)]]
 
     def stored(self, p: int, choice: int) -> bytes | None:
         """The state that a process goes on from: nothing is stored for NOW."""
         if choice == NOW:
             return None
-        return among(Check, self.front(p, choice))[-1].state if choice else b""
+        checks = among(Check, self.front(p, choice))
+        return checks[-1].state if checks else b""
 
     # Messages and lines.
 
     def sent(self, p: int, choice: int = NOW) -> list[tuple[Name, int]]:
         """The messages sent before a choice, each with the process that its send names."""
-        sends = among(Send, self.front(p, choice))
-        return [(Name(p, send.incarnation, number), send.to) for number, send in enumerate(sends)]
+        sends = enumerate(among(Send, self.front(p, choice)), self.floor(p).sends)
+        return [(Name(p, send.incarnation, number), send.to) for number, send in sends]
 
     def send_of(self, message: Name) -> tuple[int, bytes]:
         """The place of a message's send on the tape of its sender, and its body."""
         tape = enumerate(self.tapes[message.sender])
         sends = [(place, event) for place, event in tape if isinstance(event, Send)]
-        place, send = sends[message.number]
+        place, send = sends[message.number - self.floor(message.sender).sends]
         return place, send.body
 
     def received(self, p: int, choice: int = NOW) -> list[Name]:
@@ -171,8 +199,9 @@ class History:
 
     def next_lower(self, marks: Marks, p: int, choice: int) -> int:
         """The latest surviving choice before a choice."""
-        checks = range(self.checks(p) if choice == NOW else choice - 1, 0, -1)
-        return next((check for check in checks if marks.allow(p, check)), 0)
+        first = self.first(p)
+        checks = range(self.checks(p) if choice == NOW else choice - 1, first, -1)
+        return next((check for check in checks if marks.allow(p, check)), first)
 
     def latest_choices(self, marks: Marks, failed: Iterable[int]) -> Line:
         """The latest surviving choice of each process."""
@@ -201,8 +230,9 @@ class History:
 
     def surviving(self, marks: Marks, failed: set[int], p: int) -> list[int]:
         """All surviving choices of a process."""
-        later = [*range(1, self.checks(p) + 1), *([] if p in failed else [NOW])]
-        return [0, *(choice for choice in later if marks.allow(p, choice))]
+        first = self.first(p)
+        later = [*range(first + 1, self.checks(p) + 1), *([] if p in failed else [NOW])]
+        return [first, *(choice for choice in later if marks.allow(p, choice))]
 
     def check_by_all_lines(self, marks: Marks, failed: set[int], line: Line) -> None:
         """Tries every line of surviving choices, where they are few.
@@ -234,7 +264,7 @@ class History:
     def put_on_link(self, p: int, q: int) -> list[Item]:
         """What p put on its link to q: its messages, and a marker for each check of a round."""
         items: list[Item] = []
-        number = 0
+        number = self.floor(p).sends
         for event in self.tapes[p]:
             if isinstance(event, Send):
                 if event.to == q:
@@ -270,7 +300,7 @@ class History:
         """The sender's colour where the message's send stands."""
         tape = self.tapes[message.sender]
         places = [place for place, event in enumerate(tape) if isinstance(event, Send)]
-        return colour(tape[:places[message.number]])
+        return colour(tape[:places[message.number - self.floor(message.sender).sends]])
 
     def newest_round(self) -> int:
         """The greatest round on the tapes, or 0."""
@@ -279,7 +309,8 @@ class History:
     def check_of_round(self, p: int, number: int) -> int | None:
         """The index of a tape's check of a round, or none."""
         checks = among(Check, self.tapes[p])
-        return next((index for index, check in enumerate(checks, 1) if check.round == number), None)
+        indices = enumerate(checks, self.first(p) + 1)
+        return next((index for index, check in indices if check.round == number), None)
 
     def round_line(self, number: int) -> Line:
         """The checks of a round, of the processes that have one."""
@@ -312,15 +343,27 @@ class History:
 
     def version(self) -> int:
         """The version that the history is written in by itself."""
-        return earliest_version(len(self.tapes))
+        return 4 if self.floors else earliest_version(len(self.tapes))
+
+    def kept_choice(self, p: int, choice: int) -> int:
+        """A choice by its number in what is kept."""
+        return choice if choice == NOW else choice - self.first(p)
+
+    def kept_name(self, message: Name) -> Name:
+        """A message by its number in what is kept."""
+        return message._replace(number=message.number - self.floor(message.sender).sends)
 
     def records(self, version: int) -> Iterator[Record]:
-        """The records of the history, in a version."""
+        """The records of the history, in a version, with the numbers of what is kept."""
         yield "history", version, len(self.tapes)
+        for p, floor in enumerate(self.floors):
+            yield "floor", p, *floor
         for p in self.processes():
             yield "tape", p, self.incarnations[p]
             for event in self.tapes[p]:
-                fields: Record = event.message if isinstance(event, Recv) else event
+                fields: Record = (
+                    self.kept_name(event.message) if isinstance(event, Recv) else event
+                )
                 yield type(event).__name__.lower(), *fields
 
 

@@ -3,9 +3,13 @@
 from collections.abc import Sequence
 from typing import NamedTuple
 
+from .claims import mark_records
+from .floors import MOST_LOST, floors_at, kept_marks, kept_tape
 from .histories import Check, Item, Line, Mark, Marker, Name, Recv, Send
 from .planning import Computation
-from .texts import MOST_BODY, MOST_EVENTS, MOST_ROUND, MOST_STATE, Records, refuse
+from .texts import (
+    MOST_BODY, MOST_EVENTS, MOST_ROUND, MOST_STATE, OF_FORGET, Records, refuse,
+)
 
 
 class Round(NamedTuple):
@@ -37,8 +41,12 @@ class World(Computation):
         return newest if newest and not self.history.is_completed(newest, self.is_fifo) else None
 
     def has_no_room(self, p: int, events: int) -> bool:
-        """Whether the tape of a process lacks room for so many events."""
-        return len(self.history.tapes[p]) + events > MOST_EVENTS
+        """Whether the tape of a process, as far as it is kept, lacks room for so many events."""
+        tape = self.history.tapes[p]
+        if len(tape) + events > MOST_EVENTS:
+            begins = self.history.floor(p)
+            tape = kept_tape(tape, p, self.floors, self.last_gone, begins)
+        return len(tape) + events > MOST_EVENTS
 
     def add_check(self, p: int, state: bytes, number: int | None) -> int:
         """Adds a check and answers its index."""
@@ -48,7 +56,8 @@ class World(Computation):
     def list_completed(self) -> None:
         """Lists the newest round where the step before has completed it."""
         newest = self.history.newest_round()
-        if not newest or newest in [listed.number for listed in self.listed] or self.open_round():
+        known = [listed.number for listed in self.listed]
+        if newest <= self.last_gone or newest in known or self.open_round():
             return
         pairs = [(p, q) for p in range(self.n) for q in range(self.n) if p != q]
         channels = [
@@ -152,7 +161,43 @@ class World(Computation):
                 self.copies.setdefault((name.sender, to), []).append(name)
         return records
 
+    def forget(self, number: int | None = None) -> Records:
+        """Lets go what is before a listed round, or before the line where every process fails."""
+        refuse(22, not self.is_fifo)
+        refuse(20, self.open_round())
+        if number is None:
+            line, _, _ = self.history.plan(self.marks, range(self.n))
+        else:
+            line = self.safe_line(number)
+        floors = floors_at(self.history, line)
+        refuse(50, any(max(it.lost_checks, it.sends) > MOST_LOST for it in floors))
+        self.floors, self.last_gone = floors, self.begun
+        self.listed = [
+            listed for listed in self.listed
+            if all(check >= floors[p].check for p, check in enumerate(listed.checks))
+        ]
+        return [("forgot", number), *(("floor", p, *floor) for p, floor in enumerate(floors))]
+
+    def safe_line(self, number: int) -> Line:
+        """The checks of a listed round, all of which survive."""
+        lines = [listed.checks for listed in self.listed if listed.number == number]
+        refuse(48, not lines)
+        refuse(49, not all(self.marks.allow(p, check) for p, check in enumerate(lines[0])))
+        return lines[0]
+
     # Views.
+
+    def save(self) -> Records:
+        """The text of what is kept, by which the same machine begins anew."""
+        refuse(22, not self.is_fifo)
+        refuse(20, self.open_round())
+        kept, marks = self.kept(), kept_marks(self.marks, self.floors)
+        kept.floors = list(self.floors)
+        records: Records = [*kept.records(OF_FORGET), *mark_records(kept, marks)]
+        for number, checks, _ in self.listed:
+            own = [kept.kept_choice(p, check) for p, check in enumerate(checks)]
+            records.append(("round", number, *own))
+        return [*records, ("saved", self.begun)]
 
     def rounds(self) -> Records:
         """The listed rounds."""
@@ -163,13 +208,14 @@ class World(Computation):
         return records
 
     def answer(self, *failed: int) -> Records:
-        """The claim that `bundle` writes, in version 3, with the starts and the replays."""
+        """The claim that `bundle` writes, in version 3 or 4, with the starts and the replays."""
         line, replays, [_, *told] = self.planned("planned", failed)
-        _, *claim, end = self.bundle(*failed)
+        (first, version, n), *claim, end = self.bundle(*failed)
         starts: Records = [("start", p, inc, state) for _, p, _, inc, state in told[:self.n]]
-        sends = [self.history.send_of(name) for name, _ in replays]
+        kept = self.kept()
+        sends = [kept.send_of(name) for name, _ in replays]
         again: Records = [
-            ("replay", *name, to, place, body)
+            ("replay", *kept.kept_name(name), to, place, body)
             for (name, to), (place, body) in zip(replays, sends, strict=True)
         ]
-        return [("history", 3, self.n), *claim, *starts, *again, end]
+        return [(first, max(version, 3), n), *claim, *starts, *again, end]

@@ -11,8 +11,11 @@ from random import Random
 from .claims import Claim, Replay, Start
 from .histories import Check, Entry, Event, History, Mark, Marks, Name, Recv, Send
 from .made_scripts import DOMINOES, ROUNDS, TALK, Player
-from .made_texts import odd_first, one_in, text_of
-from .texts import NOW
+from .made_texts import ODD_NUMBERS, odd_first, one_in, text_of
+from .texts import NOW, OF_FORGET, Record
+
+
+SOME_LOST = ["0", "1", "1", "2", "3", "10", "4294967295"]
 
 
 def some_check_text(chance: Random) -> bytes:
@@ -27,6 +30,8 @@ def some_check_text(chance: Random) -> bytes:
     records, n = list(claim.records()), len(claim.history.tapes)
     if one_in(chance, 5):
         records[0] = ("history", chance.choice([1, 2, 2, 3]), n)
+    if one_in(chance, 3):
+        records = with_floors(chance, records, n)
     if one_in(chance, 80):
         records[0] = odd_first(chance, "history", n)
     return text_of(chance, records, one_in(chance, 3))
@@ -43,7 +48,20 @@ def some_answer_texts(chance: Random, many: int) -> Iterator[bytes]:
         add_answer(chance, claim)
         if one_in(chance, 4):
             chance.choice(CHANGES)(chance, claim)
-        yield text_of(chance, claim.records(), False)
+        records = list(claim.records())
+        if one_in(chance, 3):
+            records = with_floors(chance, records, len(claim.history.tapes))
+        yield text_of(chance, records, False)
+
+
+def with_floors(chance: Random, records: list[Record], n: int) -> list[Record]:
+    """The records of a claim as of a history of which the beginning was let go: any floors do."""
+    first: Record = ("history", 3 if one_in(chance, 40) else OF_FORGET, n)
+    floors: list[Record] = []
+    for p in range(n):
+        some = ODD_NUMBERS[:13] if one_in(chance, 200) else SOME_LOST
+        floors.append(("floor", p, chance.choice(some), chance.choice(some)))
+    return [first, *floors, *records[1:]]
 
 
 def copy_of(claim: Claim) -> Claim:

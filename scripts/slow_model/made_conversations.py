@@ -3,6 +3,7 @@
 from collections.abc import Sequence
 from random import Random
 
+from .made_saves import some_saved_script
 from .made_scripts import some_script
 from .made_texts import one_in, with_other_bytes
 from .service import MOST_LINE, Service
@@ -14,11 +15,13 @@ ODD_LINES = [
     b"world,3,2,fifo", b"world,1,65,fifo", b"world,1,2,lifo", b"world,x,2,lifo", b"world,1,2,fifo",
     b"world,2,2,unordered", b"sned,0,1,61", b"history,1,1", b"fault,0,OutOfMemory", b"recover,",
     b"recover,x", b"bundle,4294967296", b"plan,x", b"answer,x", b"live,0", b"planned,1,0,0",
-    b"live,", b"check,0", b"check,0,6", b"check,0,,", b"rounds,0",
+    b"forget,", b"forget,0", b"forget,65536", b"forget,1,", b"forgot,-", b"floor,0,0,0",
+    b"live,", b"save,", b"save,0", b"saved,0", b"history,4,2", b"history,4,2,0", b"history,4,257",
+    b"check,0", b"check,0,6", b"check,0,,", b"rounds,0",
     b"deliver,0,1,-1,", b"Check,0,", b"\xef\xbb\xbfcheck,0,", b"%n%s", b"history" * 9,
 ]  # fmt: skip
 # Records that show the machine.
-SHOWING = [b"rounds", b"bundle", b"plan,0", b"live", b"answer", b"history"]
+SHOWING = [b"rounds", b"bundle", b"plan,0", b"live", b"answer", b"save", b"history"]
 MOST_PIECES = [1, 2, 5, 30, 200, 3_000, 70_000]
 
 
@@ -63,7 +66,8 @@ def odd_line(
 
 def some_input(chance: Random) -> bytes:
     """An input: a made script, with other lines at random places, and the history at its end."""
-    return mixed(chance, some_script(chance).split(b"\n"), ODD_LINES, SHOWING)
+    made = some_saved_script if one_in(chance, 4) else some_script
+    return mixed(chance, made(chance).split(b"\n"), ODD_LINES, SHOWING)
 
 
 def mixed(
@@ -111,12 +115,18 @@ def answers_to(pieces: list[bytes], model: type[Service]) -> tuple[list[bytes], 
 def good_records(text: bytes, model: type[Service]) -> tuple[bytes, bytes]:
     """The lines of an input that have no fault, and all answers to them without empty lines."""
     service = model()
-    good, replies = [], []
+    good: list[tuple[bytes, bytes]] = []
     *ended, rest = text.split(b"\n")
-    answered = [(line, service.take(line + b"\n")) for line in ended]
-    service.take(rest)
-    for line, answer in [*answered, (rest, service.end())]:
+
+    def answered(line: bytes, answer: bytes) -> None:
+        """A fault before there is a machine drops what was read of one that was saved."""
         if answer and not answer.startswith(b"fault,"):
-            good.append(line + b"\n")
-            replies.append(answer[:-1])
-    return b"".join(good), b"".join(replies)
+            good.append((line + b"\n", answer[:-1]))
+        elif answer and not service.stands():
+            good.clear()
+
+    for line in ended:
+        answered(line, service.take(line + b"\n"))
+    service.take(rest)
+    answered(rest, service.end())
+    return b"".join(line for line, _ in good), b"".join(reply for _, reply in good)

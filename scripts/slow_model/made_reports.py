@@ -13,7 +13,7 @@ from .histories import Check, Event, Mark, Recv, Send, among
 from .made_conversations import ODD_LINES, mixed, odd_line
 from .made_scripts import DOMINOES, ROUNDS, TALK, Player
 from .made_texts import one_in
-from .scripts import answer, command_of
+from .scripts import OF_ROUND, answer, command_of
 from .texts import NOW, Record, Records, earliest_version, shown, written
 
 # How often a query stands among the reports, and a report that is late.
@@ -86,6 +86,7 @@ class Reporting(Player):
 
     def __init__(self, chance: Random) -> None:
         super().__init__(chance, [TALK, ROUNDS, DOMINOES, DOMINOES])
+        self.weights[OF_ROUND] = 0  # what reports tell of is kept whole
         self.phases = [Phase(self.n)]
         self.output: list[bytes] = []
 

@@ -7,8 +7,8 @@ from typing import Any
 from .histories import Item
 from .machine import World
 from .made_texts import odd_first, one_in, text_of
-from .scripts import OF_FAILED, answer, command_of
-from .texts import Record, earliest_version, shown
+from .scripts import OF_FAILED, OF_ROUND, answer, command_of
+from .texts import MOST_ROUND, Record, earliest_version, shown
 
 # How often each kind of command comes. A relay is a message, its receipt, and a check after it.
 TALK = {
@@ -25,6 +25,7 @@ DOMINOES = {
     "begin": 3, "turn": 2, "bundle": 1, "plan": 2, "live": 1,
     "answer": 2,
 }
+FORGETS = [0, 3, 8]  # how often `forget` comes beside these
 LENGTHS = [0, 3, 10, 30, 30, 60, 60, 90]
 PROCESSES = [1, *[2] * 6, *[3] * 6, 4, 4, 5]
 MANY_PROCESSES = [63, 64, 65, 65, 66, 128, 255, 256, 256]
@@ -45,7 +46,7 @@ class Player:
         # The last process is always among the busy ones; of few processes all are.
         self.busy = [*chance.sample(range(self.n - 1), min(self.n - 1, BUSY)), self.n - 1]
         self.holder = chance.choice(self.busy)  # the process that the last relay went to
-        self.weights = chance.choice(moods)
+        self.weights = {**chance.choice(moods), OF_ROUND: chance.choice(FORGETS)}
 
     def is_odd(self) -> bool:
         """Whether the next value is an odd one."""
@@ -109,7 +110,7 @@ class Player:
         """A command, most often one that the machine takes."""
         self.care = 2 if one_in(self.chance, 30) else CARE
         kind = self.chance.choices(list(self.weights), list(self.weights.values()))[0]
-        if kind == "begin" and self.world.open_round() and not one_in(self.chance, 6):
+        if self.is_too_early(kind) and not one_in(self.chance, 6):
             kind = "deliver"
         if kind == "relay":
             return self.relay()
@@ -124,7 +125,24 @@ class Player:
             return kind, self.process(), self.state()
         if kind in ("damage", "bar"):
             return kind, *self.known_check()
+        if kind == OF_ROUND:
+            return kind, *self.some_round()
         return kind, *(self.processes(0, 1, 1, 2, 3) if kind in OF_FAILED else [])
+
+    def is_too_early(self, kind: str) -> bool:
+        """Whether a command is refused since a round is open."""
+        return kind in ("begin", OF_ROUND) and self.world.open_round() is not None
+
+    def some_round(self) -> list[int]:
+        """No round, or one, most often a listed one."""
+        if self.is_odd():
+            return [self.chance.choice([1, self.world.begun + 1, MOST_ROUND])]
+        if one_in(self.chance, 3):
+            return []
+        listed = [it.number for it in self.world.listed]
+        if listed and not one_in(self.chance, 8):
+            return [self.chance.choice([listed[0], listed[-1], self.chance.choice(listed)])]
+        return [self.chance.randint(1, self.world.begun or 1)]
 
     def relay(self) -> Record:
         """The holder sends a message, which is delivered; the command is the next one's check."""
@@ -156,7 +174,8 @@ def some_script(chance: Random) -> bytes:
     plan: Record = ["plan", *player.processes(0, 1, 2)]
     recover: Record = ["recover", *player.processes(1, 1, 2)]
     whole: Record = ["answer", *player.processes(0, 1, 2)]
-    for end in [["rounds"], ["history"], bundle, ["live"], plan, whole, recover, ["rounds"]]:
+    ends: list[Record] = [["rounds"], ["history"], bundle, ["live"], plan, whole, recover]
+    for end in [*ends, [OF_ROUND], whole, ["rounds"]]:
         if one_in(chance, 2):
             player.add(*end)
     version = 2 if one_in(chance, 3) else earliest_version(player.n)

@@ -7,7 +7,7 @@ from typing import Any
 from .texts import NOW, Record, shown
 
 ODD_NUMBERS = [
-    "0", "1", "2", "3", "64", "65", "256", "257", "65535", "65536", "4294967295", "4294967296",
+    "0", "1", "2", "3", "4", "64", "65", "256", "257", "65535", "65536", "4294967295", "4294967296",
     "18446744073709551615", "18446744073709551616", "99999999999999999999999",
 ]
 ODD_FIELDS = [
@@ -16,8 +16,8 @@ ODD_FIELDS = [
      "unordered", "lifo"],
     ["6", "61", "6g", "AB", "61" * 64, "61" * 65, "61" * 4096, "61" * 4097],
     ["world", "history", "tape", "send", "recv", "deliver", "check", "mark", "begin", "turn",
-     "damage", "bar", "recover", "rounds", "bundle", "plan", "live", "answer", "failed", "line",
-     "pass", "start", "replay", "end", "Send"],
+     "damage", "bar", "recover", "rounds", "bundle", "plan", "live", "answer", "forget", "floor",
+     "failed", "line", "pass", "start", "replay", "end", "Send"],
 ]
 ODD_BYTES = b",\n\r\"0x-9 ~\x7f\xff\x00now"
 ODD_TEXTS = [
@@ -44,7 +44,7 @@ def loosely(chance: Random, field: Any) -> str:
 def odd_first(chance: Random, kind: str, n: int, *mode: str) -> Record:
     """A first record that may have another version, number of processes or mode."""
     other_mode = [chance.choice([field, "lifo", ""]) for field in mode]
-    version = chance.choice([1, 1, 2, 2, 0, 3, 3, 4])
+    version = chance.choice([1, 1, 2, 2, 0, 3, 3, 4, 5])
     many = chance.choice([n, n + 1, 0, 64, 65, 256, 257, 2**32])
     return kind, version, many, *other_mode
 

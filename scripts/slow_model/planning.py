@@ -4,7 +4,8 @@ from collections.abc import Sequence
 from typing import NamedTuple
 
 from .claims import Claim
-from .histories import History, Line, Marks, Name
+from .floors import kept_history, kept_marks
+from .histories import NO_FLOOR, History, Line, Marks, Name
 from .texts import MOST_INCARNATION, NOW, Records, refuse
 
 
@@ -16,11 +17,16 @@ class Recovery(NamedTuple):
 
 
 class Computation:
-    """A history of processes, and marks; one method for each command, which answers or refuses."""
+    """A history of processes, and marks; one method for each command, which answers or refuses.
+
+    The history is the whole, also where something was let go: floors say what is kept of it.
+    """
 
     def __init__(self, n: int) -> None:
         self.n = n
         self.history, self.marks = History(n), Marks()
+        self.floors = [NO_FLOOR] * n
+        self.last_gone = 0  # the last round that was begun when something was let go
 
     def known(self, *processes: int) -> None:
         """Refuses a process that there is not."""
@@ -31,7 +37,7 @@ class Computation:
     def damage(self, p: int, check: int) -> Records:
         """Marks a check as damaged."""
         self.known(p)
-        refuse(7, check == 0)
+        refuse(7, check <= self.floors[p].check)
         refuse(4, not self.history.has_choice(p, check))
         refuse(8, (p, check) in self.marks.damaged)
         self.marks.damaged.add((p, check))
@@ -40,7 +46,7 @@ class Computation:
     def bar(self, p: int, check: int) -> Records:
         """Bars a process at a check."""
         self.known(p)
-        refuse(4, not self.history.has_choice(p, check))
+        refuse(4, check < self.floors[p].check or not self.history.has_choice(p, check))
         refuse(40, check >= self.marks.bars.get(p, NOW))
         self.marks.bars[p] = check
         return [("barred", p, check)]
@@ -57,11 +63,15 @@ class Computation:
         replays = self.history.in_transit(line)
         return Recovery(line, replays, [
             (word, sweeps, len(entries), len(replays)),
-            *(("line", p, choice, own[p] + goes_back[p], self.history.stored(p, choice))
-              for p, choice in enumerate(line)),
-            *(("pass", at, choice, *message) for at, choice, message in entries),
+            *(("line", p, self.told(p, choice), own[p] + goes_back[p],
+               self.history.stored(p, choice)) for p, choice in enumerate(line)),
+            *(("pass", at, self.told(at, choice), *message) for at, choice, message in entries),
             *(("replay", *name) for name, _ in replays),
         ])
+
+    def told(self, p: int, choice: int) -> int:
+        """A choice as it is told: none is before the floor."""
+        return max(choice, self.floors[p].check)
 
     def plan(self, *failed: int) -> Records:
         """What a recovery would be answered where these processes failed."""
@@ -81,12 +91,18 @@ class Computation:
 
     # Views.
 
+    def kept(self) -> History:
+        """What is kept of the history."""
+        return kept_history(self.history, self.floors, self.last_gone)
+
     def history_text(self) -> Records:
         """The history."""
-        return list(self.history.records(self.history.version()))
+        kept = self.kept()
+        return list(kept.records(kept.version()))
 
     def bundle(self, *failed: int) -> Records:
         """The history with the claim that is planned for these failed processes."""
         self.known(*failed)
         line, entries, _ = self.history.plan(self.marks, failed)
-        return list(Claim(self.history, self.marks, set(failed), line, entries).records())
+        marks = kept_marks(self.marks, self.floors)
+        return list(Claim(self.kept(), marks, set(failed), line, entries).records())

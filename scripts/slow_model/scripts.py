@@ -1,12 +1,13 @@
 """Scripts: `recline run`."""
 
-from collections.abc import Callable, Sequence
+from collections.abc import Callable, Iterator, Sequence
 from typing import Any
 
 from .machine import World
+from .saved import Saved, begin
 from .texts import (
     NAMES, Answer, Fault, Records, Refusal, fields_of, first_record, hexadecimal, number, numbered,
-    place, records_of, told, want, written,
+    place, records_of, round_number, told, want, written,
 )
 
 # A command by its name, and its values.
@@ -21,10 +22,13 @@ READERS: dict[str, list[Callable[[str], Any]]] = {
     "bar": [number, number],
     "rounds": [],
     "history": [],
+    "save": [],
     "live": [],
 }
 OF_FAILED = ["recover", "bundle", "plan", "answer"]  # with any number of processes
+OF_ROUND = "forget"  # with the number of a round, or without
 METHODS = {"history": "history_text"}  # where the world's method has another name
+RUN_TAKES_SAVED = False  # whether `recline run` begins with a saved machine, as `recline serve`
 
 
 def world_of(fields: Sequence[str]) -> tuple[int, str]:
@@ -37,15 +41,50 @@ def world_of(fields: Sequence[str]) -> tuple[int, str]:
 def command_of(fields: Sequence[str]) -> Command:
     """The name of a command and its values."""
     name, rest = fields[0], fields[1:]
+    if name == OF_ROUND:
+        return name, fields_of([round_number][:len(rest)], rest)
     want(name in READERS or name in OF_FAILED, 32)
     return name, fields_of([number] * len(rest) if name in OF_FAILED else READERS[name], rest)
 
 
-def read_script(text: bytes) -> tuple[int, str, list[Command]]:
-    """The number of processes, the mode and the commands that a script spells."""
-    records = records_of(text)
-    n, mode = numbered(1, world_of, records[0])
-    return n, mode, [numbered(i, command_of, fields) for i, fields in enumerate(records[1:], 2)]
+def new_world(fields: Sequence[str]) -> World:
+    """The machine that a first record begins."""
+    return World(*world_of(fields))
+
+
+def begun_by(fields: Sequence[str]) -> World | Saved:
+    """What a first record begins: a machine, or the text of one that was saved."""
+    return begin(fields) if fields[0] == "history" else new_world(fields)
+
+
+def read_script(text: bytes) -> tuple[World, list[Command]]:
+    """The machine that a script begins with, and its commands."""
+    records = list(enumerate(records_of(text), 1))
+    begun: World | Saved = numbered(1, begun_by if RUN_TAKES_SAVED else new_world, records[0][1])
+    rest = iter(records[1:])
+    if isinstance(begun, Saved):
+        begun = read_saved(begun, rest, len(records))
+    return begun, [numbered(i, command_of, fields) for i, fields in rest]
+
+
+def read_saved_text(text: bytes) -> World:
+    """The machine that a saved text spells, which has nothing after it."""
+    records = list(enumerate(records_of(text), 1))
+    saved = numbered(1, begin, records[0][1])
+    rest = iter(records[1:])
+    world = read_saved(saved, rest, len(records))
+    for i, _ in rest:
+        raise Fault(32, i)
+    return world
+
+
+def read_saved(saved: Saved, records: Iterator[tuple[int, list[str]]], last: int) -> World:
+    """The machine that the next records spell to the last one that is read of it."""
+    for i, fields in records:
+        numbered(i, saved.read, fields)
+        if saved.is_whole:
+            return saved.world()
+    raise Fault(32, last + 1)
 
 
 def answer(world: World, name: str, values: Sequence[Any]) -> tuple[Records, bool]:
@@ -59,10 +98,9 @@ def answer(world: World, name: str, values: Sequence[Any]) -> tuple[Records, boo
 def run(text: bytes) -> Answer:
     """What the program has to write, say and answer."""
     try:
-        n, mode, commands = read_script(text)
+        world, commands = read_script(text)
     except Fault as fault:
         return told(fault)
-    world = World(n, mode)
     answers = [answer(world, name, values) for name, values in commands]
     output = b"".join(written(records) for records, _ in answers)
     return output, b"", int(any(is_refusal for _, is_refusal in answers))

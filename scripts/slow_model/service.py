@@ -4,7 +4,8 @@ import re
 from collections.abc import Iterator
 
 from .machine import World
-from .scripts import answer, command_of, world_of
+from .saved import Saved
+from .scripts import answer, begun_by, command_of
 from .texts import NAMES, Fault, Records, want, written
 
 MOST_LINE = 65_536  # bytes of a line without its line feed; a carriage return is one of them
@@ -18,6 +19,7 @@ class Service:
 
     def __init__(self) -> None:
         self.world: World | None = None
+        self.saved: Saved | None = None  # what was read so far of the text of a saved machine
         self.begun = b""  # the first bytes of a line, one more than it may have at most
         self.status = 0
 
@@ -59,14 +61,33 @@ class Service:
         """Whether the first record has come."""
         return self.world is not None
 
-    def forget(self) -> None:
-        """Forgets the machine."""
+    def drop(self) -> None:
+        """Drops the machine."""
         self.world = None
 
     def record(self, fields: list[str]) -> tuple[Records, int]:
         """The records of an answer, and 1 where it is a refusal."""
         if self.world is None:
-            self.world = World(*world_of(fields))
+            self.begin(fields)
             return [], 0
         records, is_refusal = answer(self.world, *command_of(fields))
         return records, int(is_refusal)
+
+    def begin(self, fields: list[str]) -> None:
+        """Takes a record before there is a machine: of a text that was saved, or the first one.
+
+        A record of a text that has a fault drops what was read of the text.
+        """
+        if self.saved is None:
+            begun = begun_by(fields)
+            if isinstance(begun, Saved):
+                self.saved = begun
+            else:
+                self.world = begun
+            return
+        saved, self.saved = self.saved, None
+        saved.read(fields)
+        if saved.is_whole:
+            self.world = saved.world()
+        else:
+            self.saved = saved

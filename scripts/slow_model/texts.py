@@ -10,14 +10,16 @@ NAMES = {
     12: "NotReceived", 13: "NotOrphan", 14: "LineDiffers", 15: "NotConsistent", 16: "BadShape",
     17: "ToSelf", 18: "LinkEmpty", 19: "BadPick", 20: "RoundOpen", 21: "NothingToTurn",
     22: "WrongMode", 23: "NoMoreRounds", 24: "NoMoreIncarnations", 32: "BadRecord",
-    33: "BadNumber", 34: "NoWorld", 35: "BadVersion", 40: "BarNotLower", 41: "StateDiffers",
-    42: "IncarnationDiffers", 43: "NotInTransit", 44: "ReplayDiffers", 45: "ReplayRepeated",
-    46: "ReplayMissing",
+    33: "BadNumber", 34: "NoWorld", 35: "BadVersion", 38: "NamesDisagree", 40: "BarNotLower",
+    41: "StateDiffers", 42: "IncarnationDiffers", 43: "NotInTransit", 44: "ReplayDiffers",
+    45: "ReplayRepeated", 46: "ReplayMissing", 48: "NoSuchRound", 49: "RoundLost",
+    50: "NoMoreNumbers",
 }
 NOW = 2**100  # the choice that is later than every check
 MOST_PROCESSES, MOST_BODY, MOST_STATE, MOST_EVENTS = 256, 64, 4096, 1_000_000
 MOST_IN_FIRST_VERSION = 64  # processes of a text of version 1, and choices of a line in it
-LAST_VERSIONS = {"world": 2, "history": 3, "reports": 2}  # by the first field of the first record
+LAST_VERSIONS = {"world": 2, "history": 4, "reports": 2}  # by the first field of the first record
+OF_FORGET = 4  # the version of histories of which the beginning was let go
 MOST_INCARNATION, MOST_ROUND = 65_535, 65_535
 DIGITS, HEX_DIGITS = set("0123456789"), set("0123456789abcdefABCDEF")
 # The values of a record's fields: words, numbers, bytes, and None for `-`.
