@@ -13,16 +13,21 @@ import argparse
 import os
 import pathlib
 import sys
-from collections.abc import Iterator
+from collections.abc import Iterator, Sequence
 from typing import NamedTuple
 
 sys.dont_write_bytecode = True  # leaves nothing beside the scripts
 
 from recline.records import COMMANDS
+from recline.renewals import FIRST_OF_SAVED, LAST_OF_SAVED
 from recline.sums import Sum, changes, path_of, read
 
 NOT_WHOLE, FAILED, INTERRUPTED = 1, 3, 130
 MOST_SHOWN = 60  # letters of a record
+FIRST = ("world", FIRST_OF_SAVED)
+OF_SAVED = (
+    "floor", "tape", "send", "recv", "check", "mark", "damage", "bar", "round", LAST_OF_SAVED,
+)
 
 
 class Line(NamedTuple):
@@ -52,13 +57,20 @@ def lines_of(text: bytes) -> Iterator[Line]:
 def faults_of_records(text: bytes) -> Iterator[str]:
     """What is no record, and a last one without its end."""
     last = None
+    may_stand: Sequence[str] = FIRST
     for last in lines_of(text):
         kind = last.text.strip(b"\r\n").decode("latin-1").split(",")[0]
         where = f"byte {last.place}, record {last.number}"
         if not last.text.endswith(b"\n"):
             continue
-        if (kind == "world") != (last.number == 1) or kind not in ("world", *COMMANDS):
+        if kind not in may_stand:
             yield f"{where}: {shown(last.text.strip())} is no record of a journal here"
+        if last.number == 1 and kind == FIRST_OF_SAVED:
+            may_stand = OF_SAVED
+        elif last.number == 1 or kind == LAST_OF_SAVED:
+            may_stand = COMMANDS
+    if may_stand is OF_SAVED:
+        yield "the saved text that it begins with has no end"
     if last and not last.text.endswith(b"\n"):
         yield (
             f"byte {last.place}, record {last.number}: {shown(last.text)} has no end, "

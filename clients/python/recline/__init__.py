@@ -26,15 +26,15 @@ from .journals import Sync
 from .records import Answer
 from .services import Service, Together
 from .values import (
-    Begun, Channel, Delivered, Marked, MessageName, Passed, Plan, Repeated, Replay, RolledOver,
-    Round, Stale, Took, Turned,
+    Begun, Channel, Delivered, Floor, Marked, MessageName, Passed, Plan, Repeated, Replay,
+    RolledOver, Round, Stale, Took, Turned,
 )
 from .versions import __version__, program_version
 
 __all__ = [
     "Answer", "AsyncService", "AsyncTogether", "Begun", "Channel", "Checked", "Claim", "Delivered",
-    "Event", "Fault", "History", "JournalError", "MarkerCame", "Marked", "MessageName", "NotDone",
-    "Passed", "Plan", "Received", "Refused", "Repeated", "Replay", "ReplaysMissing", "RolledOver",
-    "Round", "Sent", "Service", "ServiceEnded", "Stale", "Start", "Sync", "Tape", "Together",
-    "Took", "Turned", "__version__", "program_version",
+    "Event", "Fault", "Floor", "History", "JournalError", "MarkerCame", "Marked", "MessageName",
+    "NotDone", "Passed", "Plan", "Received", "Refused", "Repeated", "Replay", "ReplaysMissing",
+    "RolledOver", "Round", "Sent", "Service", "ServiceEnded", "Stale", "Start", "Sync", "Tape",
+    "Together", "Took", "Turned", "__version__", "program_version",
 ]

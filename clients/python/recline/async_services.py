@@ -7,9 +7,10 @@ import asyncio
 from .async_talks import AsyncTalk
 from .calls import Ahead, obsolete
 from .histories import Claim, History
+from .journals import next_journal
 from .records import Failed
-from .rolling import next_journal, put_world, renamed
-from .values import Begun, Delivered, MessageName, Plan, RolledOver, Round, Turned
+from .rolling import put_world, renamed
+from .values import Begun, Delivered, Floor, MessageName, Plan, RolledOver, Round, Turned
 
 
 class AsyncTogether(Ahead):
@@ -82,6 +83,10 @@ class AsyncService(AsyncTalk):
         """As `Service.recover`."""
         return await self._told_plan(self._calls.recover(failed))
 
+    async def forget(self, round: int | None = None) -> tuple[Floor, ...]:
+        """As `Service.forget`."""
+        return await self._told(self._calls.forget(round))
+
     async def plan(self, failed: Failed = ()) -> Plan:
         """As `Service.plan`."""
         return await self._told_plan(self._calls.plan(failed))
@@ -101,6 +106,10 @@ class AsyncService(AsyncTalk):
     async def history(self) -> History:
         """As `Service.history`."""
         return await self._told(self._calls.history())
+
+    async def save(self) -> str:
+        """As `Service.save`."""
+        return await self._told(self._calls.save())
 
     async def bundle(self, failed: Failed = ()) -> Claim:
         """As `Service.bundle`."""
@@ -141,6 +150,7 @@ class AsyncService(AsyncTalk):
             self._command, processes=self.processes, links=self.links,
             journal=next_journal(journal.path) if journal else None, durable=self._durable,
             keep_questions=self._keeps, timeout=self.timeout, start_timeout=self.start_timeout,
+            forget_every=self._forget_every,
         )
 
     async def _change_places(self, other: AsyncService) -> None:

@@ -6,44 +6,45 @@ import asyncio
 import contextlib
 import os
 import tempfile
-from collections.abc import Callable
+from collections.abc import Callable, Iterator
 from typing import Any, TypeVar
 
 from .calls import Calls, missing
 from .errors import ServiceEnded
 from .histories import History
 from .journals import Sync
-from .records import Answer, read_history, with_bodies
-from .sessions import PIECE, NoAnswer, Session
+from .records import Answer, read_history, read_saved, with_bodies
+from .renewals import renewal_of
+from .sessions import PIECE, NoAnswer, Session, Told, want_save
 from .talks import (
-    SECONDS_OF_SILENCE, Command, tested_command, tested_seconds, tested_world,
+    MOST_SAID, SECONDS_OF_SILENCE, SECONDS_TO_CLOSE, SECONDS_TO_END, Command, tested_command,
+    tested_seconds, tested_world,
 )
 from .values import Plan
 
 T = TypeVar("T")
-_MOST_SAID = 4_096  # bytes of standard error that are told, the last ones
-_SECONDS, _SECONDS_TO_END = 10.0, 0.5  # to end by itself, and after a signal; then it is killed
 
 
-class AsyncTalk:
+class AsyncTalk(Told):
     """A service that runs, and what it is told. Its answers are read by a task."""
 
     def __init__(
         self, command: Command, *, processes: int, links: str = "fifo",
         journal: str | os.PathLike[str] | None = None, durable: bool | Sync = False,
         keep_questions: bool = True, timeout: float | None = SECONDS_OF_SILENCE,
-        start_timeout: float | None = SECONDS_OF_SILENCE,
+        start_timeout: float | None = SECONDS_OF_SILENCE, forget_every: int | None = None,
     ) -> None:
         self._world = tested_world(processes, links)
         self.processes, self.links, self.timeout = processes, links, tested_seconds(timeout)
         self.start_timeout = tested_seconds(start_timeout)
         self._command, self._path = tested_command(command), journal
         self._durable = durable
-        self._keeps = keep_questions
+        self._keeps, self._forget_every = keep_questions, forget_every
         self._over: ServiceEnded | None = None
         self._cause: Exception | None = None  # why it could not be gone on with
         self._calls = Calls()
-        self._session = Session(self._world, keep_questions)
+        renewal = renewal_of(forget_every, links)
+        self._session = Session(self._world, keep_questions, renewal)
         self._process: asyncio.subprocess.Process | None = None
         self._listener: asyncio.Task[None] | None = None
 
@@ -90,6 +91,10 @@ class AsyncTalk:
         replayed = session.last_replayed
         if replayed and replayed.error is None and isinstance(replayed.value, Plan):
             replayed.change(await self._with_bodies(replayed))
+        if session.journal and session.renewal:
+            async with self._sending:
+                await self._ask(look := Answer("save", read_saved, is_aside=True))
+            want_save(look)
 
     # What is known of it.
 
@@ -99,26 +104,6 @@ class AsyncTalk:
         if self._process is None:
             raise RuntimeError("it is not started")
         return self._process.pid
-
-    @property
-    def replayed(self) -> int:
-        """As `Service.replayed`."""
-        return self._session.replayed
-
-    @property
-    def last_replayed(self) -> Answer[Any] | None:
-        """As `Service.last_replayed`."""
-        return self._session.last_replayed
-
-    @property
-    def torn(self) -> int:
-        """As `Service.torn`."""
-        return self._session.torn
-
-    @property
-    def counted(self) -> int:
-        """As `Service.counted`."""
-        return self._session.counted
 
     # Records go out and answers come in.
 
@@ -136,7 +121,7 @@ class AsyncTalk:
 
     async def _send(self) -> None:
         """Sends what waits, all of it also where the task that asks for it is cancelled."""
-        if self._durable and self._session.journal:
+        if self._durable and self._session.journal or self._session.renewal:
             await asyncio.shield(asyncio.create_task(self._send_now()))
         else:
             await self._send_now()
@@ -147,6 +132,8 @@ class AsyncTalk:
         async with self._sending:
             self._test_runs()
             try:
+                if self._session.is_renewal_due():
+                    await self._renew()
                 text, is_due = self._session.taken()
                 if is_due and self._session.journal:
                     await asyncio.to_thread(self._session.journal.sync)
@@ -158,6 +145,29 @@ class AsyncTalk:
             self._process.stdin.write(text)
             with contextlib.suppress(ConnectionError):
                 await self._process.stdin.drain()
+
+    async def _ask(self, answer: Answer[Any]) -> None:
+        """Has a record answered that stands in no journal. Nothing else is sent meanwhile."""
+        assert self._process and self._process.stdin
+        text = self._session.asked(answer)
+        self._is_asked.set()
+        self._process.stdin.write(text)
+        await self._answered()
+
+    async def _answered(self) -> None:
+        """Waits until all is answered that was sent. Nothing else is sent meanwhile."""
+        if self._session.pending:
+            last: asyncio.Future[None] = asyncio.get_running_loop().create_future()
+            chain(self._session.pending[-1], last)
+            await last
+
+    async def _renew(self) -> None:
+        """Has the journal begin anew, once all is answered that was sent."""
+        await self._answered()
+        self._test_runs()
+        steps = self._session.renewed()
+        while (answer := await asyncio.to_thread(next_of, steps)) is not None:
+            await self._ask(answer)
 
     async def _flush(self) -> None:
         """Sends what waits, and has all of it answered."""
@@ -248,7 +258,7 @@ class AsyncTalk:
         assert self._process.stdin
         self._process.stdin.close()
         status = await self._status(at_once)
-        self._said.seek(max(self._said.seek(0, os.SEEK_END) - _MOST_SAID, 0))
+        self._said.seek(max(self._said.seek(0, os.SEEK_END) - MOST_SAID, 0))
         said = self._said.read().decode("utf-8", "replace")
         if why:
             said += f"ended by its client: {why}"
@@ -265,7 +275,7 @@ class AsyncTalk:
             with contextlib.suppress(ProcessLookupError):
                 self._process.terminate()
         try:
-            seconds = _SECONDS_TO_END if at_once else _SECONDS
+            seconds = SECONDS_TO_END if at_once else SECONDS_TO_CLOSE
             return await asyncio.wait_for(self._process.wait(), seconds)
         except asyncio.TimeoutError:
             with contextlib.suppress(ProcessLookupError):
@@ -276,6 +286,11 @@ class AsyncTalk:
         """Ends the service's input, waits for the service, and answers its status."""
         await self._flush()
         return (await self._end()).status or 0
+
+
+def next_of(steps: Iterator[Answer[str]]) -> Answer[str] | None:
+    """What is to be asked next, if anything is."""
+    return next(steps, None)
 
 
 def chain(answer: Answer[Any], done: asyncio.Future[None]) -> None:

@@ -9,10 +9,10 @@ from .errors import Fault, ReplaysMissing
 from .histories import Claim, History
 from .records import (
     MOST_LINE, MOST_PLACE, Answer, Failed, hexadecimal, number, numbers, read_barred, read_begun,
-    read_checked, read_claim, read_damaged, read_delivered, read_history, read_plan, read_planned,
-    read_rounds, read_sent, read_turned, with_bodies,
+    read_checked, read_claim, read_damaged, read_delivered, read_forgot, read_history, read_plan,
+    read_planned, read_rounds, read_saved, read_sent, read_turned, round_number, with_bodies,
 )
-from .values import Begun, Delivered, MessageName, Plan, Round, Turned
+from .values import Begun, Delivered, Floor, MessageName, Plan, Round, Turned
 
 T = TypeVar("T")
 
@@ -73,6 +73,10 @@ class Calls:
         """As `Service.recover`."""
         return self._tell_plan(read_plan, "recover", *numbers(failed))
 
+    def forget(self, round: int | None = None) -> Answer[tuple[Floor, ...]]:
+        """As `Service.forget`."""
+        return self._tell(read_forgot, "forget", *([] if round is None else [round_number(round)]))
+
     def plan(self, failed: Failed = ()) -> Answer[Plan]:
         """As `Service.plan`."""
         return self._tell_plan(read_planned, "plan", *numbers(failed))
@@ -88,6 +92,10 @@ class Calls:
     def history(self) -> Answer[History]:
         """As `Service.history`."""
         return self._tell(read_history, "history")
+
+    def save(self) -> Answer[str]:
+        """As `Service.save`."""
+        return self._tell(read_saved, "save")
 
     def bundle(self, failed: Failed = ()) -> Answer[Claim]:
         """As `Service.bundle`."""

@@ -1,4 +1,8 @@
-"""History texts and check texts as values. Each is the text that it was, and says what is in it."""
+"""History texts and check texts as values. Each is the text that it was, and says what is in it.
+
+A text of version 4 is of what is kept where something was let go, in numbers of its own. The values
+have the names and numbers of the whole, as all answers of a service do.
+"""
 
 from __future__ import annotations
 
@@ -6,7 +10,9 @@ import functools
 from collections.abc import Iterator
 from typing import NamedTuple
 
-from .values import MessageName, Passed, Replay
+from .values import Floor, MessageName, Passed, Replay
+
+_NOTHING = Floor(0, 0)
 
 
 class Sent(NamedTuple):
@@ -41,19 +47,23 @@ Event = Sent | Received | Checked | MarkerCame
 
 
 class Tape(NamedTuple):
-    """What a process did, the oldest first, and the incarnation under which it stands."""
+    """What a process did, the oldest first, and the incarnation under which it stands.
+
+    Where something was let go that is what is kept, and `floor` says what is not.
+    """
 
     incarnation: int
     events: tuple[Event, ...]
+    floor: Floor = _NOTHING
 
     def messages(self, process: int) -> Iterator[tuple[MessageName, Sent]]:
         """The messages that the process, of this number, has sent, each with its name."""
         sends = (event for event in self.events if isinstance(event, Sent))
-        for number, sent in enumerate(sends):
+        for number, sent in enumerate(sends, self.floor.sends):
             yield MessageName(process, sent.incarnation, number), sent
 
     def checks(self) -> tuple[Checked, ...]:
-        """Its checks: check c stands at place c - 1."""
+        """Its checks: check c stands at place c - 1, or c - `floor.first_check`."""
         return tuple(event for event in self.events if isinstance(event, Checked))
 
 
@@ -62,12 +72,40 @@ def _round(field: str) -> int | None:
     return None if field == "-" else int(field)
 
 
-def _event(kind: str, fields: list[str]) -> Event:
+class _Floors(dict[int, Floor]):
+    """What was let go of each process, of which all numbers of a text are lower."""
+
+    def __missing__(self, _process: int) -> Floor:
+        """Nothing, of a process that the text does not tell it of."""
+        return _NOTHING
+
+    def message(self, fields: list[str]) -> MessageName:
+        """A message by its fields."""
+        sender, incarnation, number = map(int, fields)
+        return MessageName(sender, incarnation, number + self[sender].sends)
+
+    def check(self, process: int, field: str) -> int:
+        """A check by its field; none is before the floor."""
+        floor = self[process]
+        return max(int(field) + floor.first_check - 1, floor.check)
+
+    def choice(self, process: int, field: str) -> int | None:
+        """A choice by its field."""
+        return None if field == "now" else self.check(process, field)
+
+
+def _floors(records: list[list[str]]) -> _Floors:
+    """What a text says that was let go."""
+    found = [list(map(int, fields)) for kind, *fields in records if kind == "floor"]
+    return _Floors({process: Floor(check, sends) for process, check, sends in found})
+
+
+def _event(kind: str, fields: list[str], floors: _Floors) -> Event:
     """The event of a record."""
     if kind == "send":
         return Sent(int(fields[0]), int(fields[1]), bytes.fromhex(fields[2]))
     if kind == "recv":
-        return Received(MessageName(int(fields[0]), int(fields[1]), int(fields[2])))
+        return Received(floors.message(fields))
     if kind == "check":
         return Checked(bytes.fromhex(fields[0]), _round(fields[1]))
     if kind == "mark":
@@ -83,12 +121,16 @@ def _records(text: str) -> list[list[str]]:
 def _tapes(records: list[list[str]]) -> tuple[Tape, ...]:
     """The tapes of a history's records, the first one left out."""
     found: list[tuple[int, list[Event]]] = []
+    floors = _floors(records)
     for kind, *fields in records:
         if kind == "tape":
             found.append((int(fields[1]), []))
-        else:
-            found[-1][1].append(_event(kind, fields))
-    return tuple(Tape(incarnation, tuple(events)) for incarnation, events in found)
+        elif kind != "floor":
+            found[-1][1].append(_event(kind, fields, floors))
+    return tuple(
+        Tape(incarnation, tuple(events), floors[process])
+        for process, (incarnation, events) in enumerate(found)
+    )
 
 
 class Start(NamedTuple):
@@ -107,6 +149,11 @@ class History(str):
         """What each process did. They are read once, when they are first asked for."""
         return _tapes(_records(self)[1:])
 
+    @functools.cached_property
+    def floors(self) -> tuple[Floor, ...]:
+        """What each process let go; empty where nothing was let go."""
+        return tuple(_floors(_records(self)).values())
+
 
 class Claim(str):
     """A check text, for `recline check`: a history, and a line that is claimed to be its latest."""
@@ -115,7 +162,7 @@ class Claim(str):
     def _claims(self) -> list[list[str]]:
         """The records after the history."""
         records = _records(self)
-        of_history = ("history", "tape", "send", "recv", "mark")
+        of_history = ("history", "floor", "tape", "send", "recv", "mark")
         first = next(
             (at for at, (kind, *_) in enumerate(records) if kind not in (*of_history, "check")),
             len(records),
@@ -125,6 +172,11 @@ class Claim(str):
     def _of(self, kind: str) -> list[list[str]]:
         """The fields of the records of a kind."""
         return [fields for found, *fields in self._claims if found == kind]
+
+    @functools.cached_property
+    def _floors(self) -> _Floors:
+        """What was let go."""
+        return _floors(_records(self))
 
     @functools.cached_property
     def history(self) -> History:
@@ -141,22 +193,27 @@ class Claim(str):
     @property
     def damaged(self) -> tuple[tuple[int, int], ...]:
         """The damaged checks, each a process and its check."""
-        return tuple((int(fields[0]), int(fields[1])) for fields in self._of("damage"))
+        return self._checks("damage")
 
     @property
     def bars(self) -> tuple[tuple[int, int], ...]:
         """The bars, each a process and the check from which it may go on at the latest."""
-        return tuple((int(fields[0]), int(fields[1])) for fields in self._of("bar"))
+        return self._checks("bar")
+
+    def _checks(self, kind: str) -> tuple[tuple[int, int], ...]:
+        """The checks that records of a kind name."""
+        found = [(int(fields[0]), fields[1]) for fields in self._of(kind)]
+        return tuple((process, self._floors.check(process, field)) for process, field in found)
 
     @property
     def line(self) -> tuple[int | None, ...]:
         """The line: for each process its check, or None where it stands."""
         fields: list[str] = next(iter(self._of("line")), [])
-        return tuple(None if field == "now" else int(field) for field in fields)
+        return tuple(self._floors.choice(process, field) for process, field in enumerate(fields))
 
     @property
     def starts(self) -> tuple[Start, ...]:
-        """Where each process goes on; a check text of version 3 alone claims that."""
+        """Where each process goes on; a check text of version 3 claims that, and one of 4 may."""
         return tuple(
             Start(int(it[0]), int(it[1]), None if it[2] == "-" else bytes.fromhex(it[2]))
             for it in self._of("start")
@@ -164,11 +221,9 @@ class Claim(str):
 
     @property
     def replays(self) -> tuple[Replay, ...]:
-        """What is sent again; a check text of version 3 alone claims that."""
+        """What is sent again; a check text of version 3 claims that, and one of 4 may."""
         return tuple(
-            Replay(
-                MessageName(int(it[0]), int(it[1]), int(it[2])), int(it[3]), bytes.fromhex(it[5])
-            )
+            Replay(self._floors.message(it[:3]), int(it[3]), bytes.fromhex(it[5]))
             for it in self._of("replay")
         )
 
@@ -178,8 +233,8 @@ class Claim(str):
         return tuple(
             Passed(
                 int(fields[0]),
-                None if fields[1] == "now" else int(fields[1]),
-                MessageName(int(fields[2]), int(fields[3]), int(fields[4])),
+                self._floors.choice(int(fields[0]), fields[1]),
+                self._floors.message(fields[2:]),
             )
             for fields in self._of("pass")
         )

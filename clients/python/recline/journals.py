@@ -2,6 +2,7 @@
 
 from __future__ import annotations
 
+import contextlib
 import fcntl
 import os
 import threading
@@ -10,6 +11,7 @@ from typing import Any, NamedTuple
 
 from .errors import JournalError
 from .records import COMMANDS, MOST_LINE, Answer, text_of
+from .renewals import FIRST_OF_SAVED
 from .sums import Sums, changes, path_of, sum_of
 
 _PIECE = 65_536  # bytes that are read at once
@@ -35,6 +37,38 @@ def sync_of(durable: bool | Sync) -> Sync | None:
     return Sync() if durable else None
 
 
+def next_journal(path: str) -> str:
+    """Where a new journal is written; what stands there, of a program that was killed, goes."""
+    found = f"{path}.next"
+    for file in (path_of(found), found):
+        with contextlib.suppress(FileNotFoundError):
+            os.remove(file)
+    return found
+
+
+def finish_move(path: str) -> None:
+    """Puts checksums into their place whose journal was put there by a program that was killed."""
+    found = f"{path}.next"
+    if not os.path.exists(found) and os.path.exists(path_of(found)):
+        os.replace(path_of(found), path_of(path))
+
+
+def put_at(opened: int, text: bytes, place: int) -> None:
+    """Writes all of it at a place of an open file."""
+    rest = memoryview(text)
+    while rest:
+        written = os.pwrite(opened, rest, place)
+        rest, place = rest[written:], place + written
+
+
+def is_at(opened: int, path: str) -> bool:
+    """Whether an open file is the one that has this path, in whose place none was put since."""
+    try:
+        return os.path.samestat(os.fstat(opened), os.stat(path))
+    except FileNotFoundError:
+        return False
+
+
 class Journal:
     """A journal in one client's hands."""
 
@@ -49,6 +83,9 @@ class Journal:
         self._file = open(opened, "r+b", buffering=0)
         try:
             fcntl.flock(opened, fcntl.LOCK_EX | fcntl.LOCK_NB)
+            if not is_at(opened, self.path):
+                raise BlockingIOError
+            finish_move(self.path)
             self._end = self._whole = os.fstat(opened).st_size  # bytes, and those of whole lines
             self.is_new = self._is_new(world)
             if self._sync or os.path.exists(path_of(self.path)):
@@ -73,7 +110,10 @@ class Journal:
         else:
             kind, *rest = first.split(",")
             numbers = [field.lstrip("0") for field in rest]
-            if [kind, *numbers[1:]] == ["world", *world.split(",")[2:]]:
+            of_world = world.split(",")[2:]
+            if [kind, *numbers[1:]] == ["world", *of_world]:
+                return False
+            if [kind, *numbers[1:], "fifo"] == [FIRST_OF_SAVED, *of_world]:
                 return False
         told = f"{self.path}: it begins with {first[:80]!r}, and not with {world!r}"
         raise JournalError(told, first)
@@ -136,7 +176,7 @@ class Journal:
                 answer.place = end
                 end += len(answer.record) + 1
             try:
-                self._put(text_of(answers), self._end)
+                put_at(self._file.fileno(), text_of(answers), self._end)
             except BaseException:
                 self._file.truncate(self._end)
                 raise
@@ -148,12 +188,6 @@ class Journal:
             self._unsynced += len(answers)
             self._keep_time()
 
-    def _put(self, text: bytes, place: int) -> None:
-        """Writes all of it at a place."""
-        while text:
-            written = os.pwrite(self._file.fileno(), text, place)
-            text, place = text[written:], place + written
-
     def take_off(self, place: int, record: str) -> None:
         """Takes a record off; one in the middle gives way to empty lines, which texts may have."""
         with self._lock:
@@ -164,7 +198,7 @@ class Journal:
                     self._sums.add(sum_of(place, b""))
             else:
                 blank = b"\n" * (len(record) + 1)
-                self._put(blank, place)
+                put_at(self._file.fileno(), blank, place)
                 if self._sums:
                     self._sums.add(sum_of(place, blank))
             self.sync(is_due=True)
@@ -225,15 +259,56 @@ class Journal:
         return sum(1 for at, line in self.lines() if at <= place and line.removesuffix("\r"))
 
     def move(self, path: str) -> None:
-        """Puts the journal, and its checksums, in the place of another one."""
+        """Puts the journal, and then its checksums, in the place of another one.
+
+        A journal that is opened after the first and before the second has its checksums put there.
+        """
         with self._lock:
-            if self._sums:
-                os.replace(self._sums.path, path_of(path))
-                self._sums.path = path_of(path)
             os.replace(self.path, path)
             self.path = path
+            if self._sums:
+                if self._sync:
+                    self._sync_folder()
+                os.replace(self._sums.path, path_of(path))
+                self._sums.path = path_of(path)
             if self._sync:
                 self._sync_folder()
+
+    def renewed(self, text: str, world: str) -> Journal:
+        """The journal that begins anew with this text, in the place of this one, which is closed.
+
+        The new one is on its device before it is in its place. Raises `OSError` where this one has
+        stayed as it was, and `JournalError` where the new one may be in its place.
+        """
+        try:
+            new = self._written_anew(text, world)
+        except OSError:
+            next_journal(self.path)
+            raise
+        try:
+            new.move(self.path)
+            new._sync_folder()
+        except OSError as error:
+            new.close()
+            if new.path == self.path:
+                raise JournalError(f"{self.path}: {error}") from error
+            next_journal(self.path)
+            raise
+        self.close()
+        return new
+
+    def _written_anew(self, text: str, world: str) -> Journal:
+        """A new journal beside this one, which begins with this text."""
+        path = next_journal(self.path)
+        with open(path, "xb", buffering=0) as file:
+            put_at(file.fileno(), text.encode("latin-1"), 0)
+            os.fsync(file.fileno())
+        if self._sums:
+            open(path_of(path), "xb").close()
+        new = Journal(path, world, self._sync or False)
+        if new._sums:
+            new._sums.sync()
+        return new
 
     def close(self) -> None:
         """Lets the journal go, so that another client may have it. What is not synced is."""

@@ -10,16 +10,16 @@ from typing import Any, Generic, SupportsIndex, TypeVar, cast
 from .errors import Fault, Refused
 from .histories import Claim, History
 from .values import (
-    Begun, Channel, Delivered, Marked, MessageName, Passed, Plan, Repeated, Replay, Round, Stale,
-    Took, Turned,
+    Begun, Channel, Delivered, Floor, Marked, MessageName, Passed, Plan, Repeated, Replay, Round,
+    Stale, Took, Turned,
 )
 
 T = TypeVar("T")
-MOST_NUMBER, MOST_PLACE = 2**32 - 1, 2**64 - 1
+MOST_NUMBER, MOST_PLACE, MOST_ROUND = 2**32 - 1, 2**64 - 1, 65_535
 MOST_LINE = 65_536  # bytes of a record without its line feed
-QUESTIONS = ("rounds", "history", "bundle", "plan", "live", "answer")  # they change nothing
+QUESTIONS = ("rounds", "history", "bundle", "plan", "live", "answer", "save")  # of no change
 COMMANDS = (
-    "send", "deliver", "check", "begin", "turn", "damage", "bar", "recover", *QUESTIONS,
+    "send", "deliver", "check", "begin", "turn", "damage", "bar", "recover", "forget", *QUESTIONS,
 )
 # Which processes have failed: several, or one.
 Failed = Iterable[int] | int
@@ -99,6 +99,13 @@ def number(value: int, most: int = MOST_NUMBER) -> str:
     if not 0 <= operator.index(value) <= most:
         raise ValueError(f"{value} is not from 0 to {most}")
     return str(operator.index(value))
+
+
+def round_number(value: int) -> str:
+    """The number of a round as a field."""
+    if operator.index(value) < 1:
+        raise ValueError(f"{value} is not from 1 to {MOST_ROUND}")
+    return number(value, MOST_ROUND)
 
 
 def hexadecimal(value: bytes) -> str:
@@ -186,6 +193,15 @@ def read_barred(text: str) -> None:
     _process, _check = fields_of(text, "barred")
 
 
+def read_forgot(text: str) -> tuple[Floor, ...]:
+    """The answer to `forget`."""
+    first, *others = text.split("\n")
+    if not first.startswith("forgot,"):
+        raise ValueError(text)
+    records = [fields_of(record, "floor") for record in others]
+    return tuple(Floor(check, sends) for _process, check, sends in records)
+
+
 def _read_line_of(text: str, kind: str) -> Plan:
     """The answer to `recover`, `plan` or `live`: its lines, its entries and its replays.
 
@@ -220,10 +236,15 @@ def read_planned(text: str) -> Plan:
 def with_bodies(plan: Plan, history: str) -> Plan:
     """The plan with the addressees and bodies of its replays, by the history text after it."""
     wanted: dict[MessageName, Replay] = {it.message: it for it in plan.replays}
+    let_go: dict[int, int] = {}  # by sender, how many of its sends are
     sender = place = 0
     for record in history.splitlines() if wanted else ():
-        if record.startswith("tape,"):
-            sender, place = int(record.split(",")[1]), 0
+        if record.startswith("floor,"):
+            _, process, _, sends = record.split(",")
+            let_go[int(process)] = int(sends)
+        elif record.startswith("tape,"):
+            sender = int(record.split(",")[1])
+            place = let_go.get(sender, 0)
         elif record.startswith("send,"):
             _, to, incarnation, body = record.split(",")
             name = MessageName(sender, int(incarnation), place)
@@ -252,6 +273,13 @@ def read_rounds(text: str) -> tuple[Round, ...]:
     return tuple(Round(of[0], tuple(of[1:]), tuple(channels)) for of, channels in rounds)
 
 
+def read_saved(text: str) -> str:
+    """The answer to `save`, with its last line feed."""
+    if not text.startswith("history,") or not text.rpartition("\n")[2].startswith("saved,"):
+        raise ValueError(text)
+    return text + "\n"
+
+
 def read_history(text: str) -> History:
     """The answer to `history`, with its last line feed."""
     return History(text + "\n")
@@ -265,7 +293,7 @@ def read_claim(text: str) -> Claim:
 READERS: dict[str, Callable[[str], Any]] = {
     "world": read_nothing, "send": read_sent, "deliver": read_delivered, "check": read_checked,
     "begin": read_begun, "turn": read_turned, "damage": read_damaged, "bar": read_barred,
-    "recover": read_plan,
+    "recover": read_plan, "forget": read_forgot,
 }
 
 

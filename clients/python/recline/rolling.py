@@ -2,23 +2,11 @@
 
 from __future__ import annotations
 
-import contextlib
-import os
 from collections.abc import Sequence
 
 from .calls import Ahead
 from .records import Answer
-from .sums import path_of
 from .values import MessageName, Plan, Replay
-
-
-def next_journal(path: str) -> str:
-    """Where a new journal is written; what stands there, of a program that was killed, goes."""
-    found = f"{path}.next"
-    for file in (found, path_of(found)):
-        with contextlib.suppress(FileNotFoundError):
-            os.remove(file)
-    return found
 
 
 def put_world(ahead: Ahead, plan: Plan) -> list[Answer[MessageName]]:

@@ -6,11 +6,12 @@ from typing import TypeVar
 
 from .calls import Ahead, obsolete
 from .histories import Claim, History
+from .journals import next_journal
 from .records import Answer, Failed
-from .rolling import next_journal, put_world, renamed
+from .rolling import put_world, renamed
 from .talks import Talk
 from .values import (
-    Begun, Delivered, MessageName, Plan, Replay, RolledOver, Round, Turned,
+    Begun, Delivered, Floor, MessageName, Plan, Replay, RolledOver, Round, Turned,
 )
 
 T = TypeVar("T")
@@ -54,13 +55,20 @@ class Service(Talk):
     killed, is done by this, once: so look at `replayed` or `last_replayed` before the last call is
     made again. `counted` is `replayed` and what was answered since, counted alike, so that
     `replayed` of the next service less `counted` of this one is how many records were done without
-    an answer. Questions (`rounds`, `history`, `bundle`, `plan`, `live`, `answer`) are not fed again
-    and not counted; with `keep_questions=False` they do not stand in the journal either, where each
-    has `recline run` answer it once more. `durable=True` has each record synced to the device
-    before it is sent, and `durable=Sync(records=100, seconds=0.05)` as often as that says. Without
-    it killed programs lose nothing, but a machine that loses its power may lose what was kept in
-    the last half minute or so, answered or not. A durable journal has checksums in a file beside
-    it, whose name ends with `.sums`: a record that was changed is found when the journal is opened.
+    an answer. Questions (`rounds`, `history`, `bundle`, `plan`, `live`, `answer`, `save`) are not
+    fed again and not counted; with `keep_questions=False` they do not stand in the journal either,
+    where each has `recline run` answer it once more. `durable=True` has each record synced to the
+    device before it is sent, and `durable=Sync(records=100, seconds=0.05)` as often as that says.
+    Without it killed programs lose nothing, but a machine that loses its power may lose what was
+    kept in the last half minute or so, answered or not. A durable journal has checksums in a file
+    beside it, whose name ends with `.sums`: a record that was changed is found when the journal is
+    opened.
+
+    `forget_every`: a number of records. After so many the service is told to `forget`, and then, as
+    after each `forget` that is called, the journal begins anew with what is kept, so that it does
+    not grow. While a round is open that is tried again later. `replayed`, `counted` and
+    `last_replayed` go on as if it had not. With "fifo" links alone. `RuntimeError` where the
+    program is older than `save`.
 
     Raises `JournalError`; `OSError` where the command does not start or the journal cannot be read
     or written; `Fault` with code 0 where memory does not suffice for the journal's steps; and
@@ -142,6 +150,17 @@ class Service(Talk):
         """
         return self._told_plan(self._calls.recover(failed))
 
+    def forget(self, round: int | None = None) -> tuple[Floor, ...]:
+        """Lets go what is before a listed round, or where none is given before the line of `live`.
+
+        Answers what each process has let go in all, with "fifo" links alone. No recovery goes back
+        further then: a check up to the floor cannot be damaged (7), and no process can be barred
+        before its floor (4). All names and numbers stay as they are.
+        Refused: 22 WrongMode, 20 RoundOpen, 48 NoSuchRound (no round of that number is listed),
+        49 RoundLost (a check of it is damaged, or barred), 50 NoMoreNumbers.
+        """
+        return self._told(self._calls.forget(round))
+
     # The questions. They change nothing.
 
     def plan(self, failed: Failed = ()) -> Plan:
@@ -176,6 +195,13 @@ class Service(Talk):
         """The history text of the machine, which has its tapes as values too."""
         return self._told(self._calls.history())
 
+    def save(self) -> str:
+        """The text of what is kept, with which another service may begin in place of its world.
+
+        With "fifo" links alone. Refused: 22 WrongMode, 20 RoundOpen.
+        """
+        return self._told(self._calls.save())
+
     def bundle(self, failed: Failed = ()) -> Claim:
         """The check text, for `recline check`, of the plan for these failed processes.
 
@@ -184,7 +210,7 @@ class Service(Talk):
         return self._told(self._calls.bundle(failed))
 
     def answer(self, failed: Failed = ()) -> Claim:
-        """The check text, of version 3, of all that `recover` would answer for these failed.
+        """The check text of all that `recover` would answer for these failed.
 
         That is the bundle, and where each process would start and what would be sent again.
         Nothing is restarted. Refused: 1 NoSuchProcess, 24 NoMoreIncarnations.
@@ -240,7 +266,7 @@ class Service(Talk):
         return Service(
             self._command, processes=self.processes, links=self.links, journal=path,
             durable=self._durable, keep_questions=self._keeps, timeout=self.timeout,
-            start_timeout=self.start_timeout,
+            start_timeout=self.start_timeout, forget_every=self._forget_every,
         )
 
     def _change_places(self, other: Service) -> None:

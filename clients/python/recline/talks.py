@@ -16,15 +16,16 @@ from typing import Any, TypeVar
 from .calls import Calls, missing
 from .errors import ServiceEnded
 from .journals import Sync
-from .records import Answer, read_history, with_bodies
-from .sessions import MOST_PROCESSES, PIECE, NoAnswer, Session, world_of
+from .records import Answer, read_history, read_saved, with_bodies
+from .renewals import renewal_of
+from .sessions import MOST_PROCESSES, PIECE, NoAnswer, Session, Told, want_save, world_of
 from .values import Plan
 
 T = TypeVar("T")
 Command = Sequence[str | os.PathLike[str]]
-_MOST_SAID = 4_096  # bytes of standard error that are told, the last ones
-_SECONDS = 10.0  # for a service to end once its pipes are closed; then it is killed
-_SECONDS_TO_END = 0.5  # for a service that is told by a signal to end; then it is killed
+MOST_SAID = 4_096  # bytes of standard error that are told, the last ones
+SECONDS_TO_CLOSE = 10.0  # for a service to end once its pipes are closed; then it is killed
+SECONDS_TO_END = 0.5  # for a service that is told by a signal to end; then it is killed
 SECONDS_OF_SILENCE = 30.0  # where nothing is said of it
 
 
@@ -71,25 +72,25 @@ class Turn:
         self._lock.release()
 
 
-class Talk:
+class Talk(Told):
     """A service that runs, and what it is told. One call is under way at a time."""
 
     def __init__(
         self, command: Command, *, processes: int, links: str = "fifo",
         journal: str | os.PathLike[str] | None = None, durable: bool | Sync = False,
         keep_questions: bool = True, timeout: float | None = SECONDS_OF_SILENCE,
-        start_timeout: float | None = SECONDS_OF_SILENCE,
+        start_timeout: float | None = SECONDS_OF_SILENCE, forget_every: int | None = None,
     ) -> None:
         world = tested_world(processes, links)
         self.processes, self.links, self.timeout = processes, links, tested_seconds(timeout)
         self.start_timeout = tested_seconds(start_timeout)
         self._command, self._durable = tested_command(command), durable
-        self._keeps = keep_questions
+        self._keeps, self._forget_every = keep_questions, forget_every
         self._over: ServiceEnded | None = None
         self._cause: BaseException | None = None  # why the client ended the service
         self._turn = Turn()
         self._calls = Calls()
-        self._session = Session(world, keep_questions)
+        self._session = Session(world, keep_questions, renewal_of(forget_every, links))
         self._silence = self.start_timeout
         if journal is not None:
             self._session.open_journal(journal, durable)
@@ -142,6 +143,9 @@ class Talk:
             last = session.last_replayed
             if last and last.error is None and isinstance(last.value, Plan):
                 last.change(self._with_bodies(last))
+            if session.journal and session.renewal:
+                self._ask(look := Answer("save", read_saved, is_aside=True))
+                want_save(look)
 
     # What is known of it.
 
@@ -149,26 +153,6 @@ class Talk:
     def pid(self) -> int:
         """The process id of the service."""
         return self._process.pid
-
-    @property
-    def replayed(self) -> int:
-        """How many records of the journal were fed again, the first one among them."""
-        return self._session.replayed
-
-    @property
-    def last_replayed(self) -> Answer[Any] | None:
-        """The last record that was fed again, and its answer."""
-        return self._session.last_replayed
-
-    @property
-    def torn(self) -> int:
-        """How many bytes of a record that was half written were cut off."""
-        return self._session.torn
-
-    @property
-    def counted(self) -> int:
-        """How many records are done: `replayed` and those that were answered since."""
-        return self._session.counted
 
     # Records go out and answers come in.
 
@@ -183,6 +167,19 @@ class Talk:
         self._test_runs()
         if self._session.put(answer):
             self._exchange(to_the_end=False)
+
+    def _ask(self, answer: Answer[Any]) -> None:
+        """Has a record answered that stands in no journal, before those that wait."""
+        self._write(self._session.asked(answer))
+        while self._session.pending:
+            self._read()
+
+    def _renew(self) -> None:
+        """Has the journal begin anew, once all is answered that was sent."""
+        while self._session.pending:
+            self._read()
+        for answer in self._session.renewed():
+            self._ask(answer)
 
     def _put(self, answer: Answer[Any]) -> None:
         """Takes a record of a block."""
@@ -234,6 +231,8 @@ class Talk:
         Whatever interrupts it ends the service: it would not be known what was sent.
         """
         try:
+            if self._session.is_renewal_due():
+                self._renew()
             text, is_due = self._session.taken()
             if is_due and self._session.journal:
                 self._session.journal.sync()
@@ -289,7 +288,7 @@ class Talk:
             self._output.close()
             try:
                 status = self._status(at_once)
-                self._said.seek(max(self._said.seek(0, os.SEEK_END) - _MOST_SAID, 0))
+                self._said.seek(max(self._said.seek(0, os.SEEK_END) - MOST_SAID, 0))
                 said = self._said.read().decode("utf-8", "replace")
                 if why or self._cause is not None:
                     said += f"ended by its client: {why or repr(self._cause)}"
@@ -305,7 +304,7 @@ class Talk:
         if at_once:  # also where it is stopped: its journal has all that counts
             self._process.terminate()
         try:
-            return self._process.wait(_SECONDS_TO_END if at_once else _SECONDS)
+            return self._process.wait(SECONDS_TO_END if at_once else SECONDS_TO_CLOSE)
         except subprocess.TimeoutExpired:
             self._process.kill()
             return self._process.wait()

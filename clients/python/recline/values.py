@@ -13,6 +13,21 @@ class MessageName(NamedTuple):
     number: int
 
 
+class Floor(NamedTuple):
+    """What of a process is let go: what stood before its check, and so many of its first sends.
+
+    With check 0 that is its initial state, and no check is let go.
+    """
+
+    check: int
+    sends: int
+
+    @property
+    def first_check(self) -> int:
+        """The number of the first check that is kept."""
+        return max(self.check, 1)
+
+
 class Took(NamedTuple):
     """A message was received; `forced` is the round of a check that had to be taken before."""
 

@@ -1,11 +1,12 @@
 """A client that is killed, and whose service is: does the steps of a script, from a journal on.
 
-Usage: killed_client.py SCRIPT JOURNAL SEED SECONDS COMMAND..
+Usage: killed_client.py SCRIPT JOURNAL SEED SECONDS EVERY COMMAND..
 
 Tells one line for each thing, on standard output: `opening`; `open STEP`, the first step that the
 journal does not have; `again STEP VALUE`, what the last one that it has was answered; `answer STEP
 VALUE`; `ended`, where the service ended; `history VALUE`, at the end. Every other service, by
-chance, is killed within SECONDS of its start; none where they are 0.
+chance, is killed within SECONDS of its start; none where they are 0. The journal begins anew after
+EVERY records, or not where that is 0.
 """
 
 import hashlib
@@ -23,7 +24,9 @@ import serving  # where the client is
 import recline
 
 QUESTIONS = ("rounds", "history", "bundle", "plan", "live", "answer")
-NUMBERS = {"send": 2, "deliver": 3, "check": 1, "begin": 1, "turn": 1, "damage": 2, "bar": 2}
+NUMBERS = {
+    "send": 2, "deliver": 3, "check": 1, "begin": 1, "turn": 1, "damage": 2, "bar": 2, "forget": 1,
+}
 
 
 def tell(*words: object) -> None:
@@ -108,7 +111,7 @@ class Killed(recline.Service):
 
 def main(words: Sequence[str]) -> None:
     """Opens the journal as often as the service ends."""
-    script, journal, seed, seconds, *command = words
+    script, journal, seed, seconds, every, *command = words
     world, *steps = pathlib.Path(script).read_text().splitlines()
     _, _, processes, links = world.split(",")
     chance = random.Random(f"{seed} {os.getpid()}")
@@ -116,7 +119,10 @@ def main(words: Sequence[str]) -> None:
         tell("opening")
         Killed.seconds = chance.choice([0, chance.uniform(0, float(seconds))])
         try:
-            with Killed(command, processes=int(processes), links=links, journal=journal) as service:
+            with Killed(
+                command, processes=int(processes), links=links, journal=journal,
+                forget_every=int(every) or None,
+            ) as service:
                 go_on(service, steps, chance)
                 return
         except recline.ServiceEnded:

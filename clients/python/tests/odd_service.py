@@ -3,7 +3,8 @@
 Usage: odd_service.py MISTAKE RECORD.. < RECORDS, where it makes this mistake at these records:
 `memory`: answers that memory is out, and does nothing; `ends`: says something on standard error
 and ends with status 3, the record done and not answered; `garbles`: answers what is no answer;
-`deaf`: closes its input and ends a little later.
+`deaf`: closes its input and ends a little later. `older`: at any record that has to do with `save`
+it is as a program that does not know it.
 """
 
 import os
@@ -33,6 +34,8 @@ def main(mistake: str, records: set[int]) -> None:
             os.close(0)
             time.sleep(0.2)
             end()
+        if mistake == "older" and line.startswith((b"save", b"history,")):
+            line = b"sned\n"
         answer = service.take(line) if mistake != "memory" or not is_odd else b""
         if is_odd and mistake == "ends":
             end()

@@ -38,14 +38,23 @@ def record_of(command: Sequence[Any]) -> str:
     return ",".join(map(field_of, [kind, *fields]))
 
 
-def some_steps(chance: random.Random) -> tuple[str, list[str]]:
+# What is answered alike, whenever something was let go.
+ALIKE = ("send", "deliver", "check", "begin", "recover", "plan", "live")
+
+
+def some_steps(chance: random.Random, may_renew: bool) -> tuple[str, list[str]]:
     """A world and steps that are most of them sensible."""
     while True:
         player = Player(chance, [TALK, ROUNDS, DOMINOES])
-        if player.n > 1:
+        if player.n > 1 and (not may_renew or player.mode == "fifo"):
             break
     while len(player.commands) < STEPS:
-        player.add(*player.command())
+        command = player.command()
+        if not may_renew or command[0] in ALIKE:
+            player.add(*command)
+    if may_renew:
+        player.add("recover", *range(player.n))
+        player.add("forget")
     version = 1 if player.n <= 64 else 2
     return f"world,{version},{player.n},{player.mode}", list(map(record_of, player.commands))
 
@@ -56,7 +65,8 @@ class Run:
     def __init__(self, folder: str, chance: random.Random) -> None:
         self.chance = chance
         self.script, self.journal = f"{folder}/script", f"{folder}/journal"
-        self.world, self.steps = some_steps(chance)
+        self.every = chance.choice([0, 0, 1, 7, 30])  # records after which its journal begins anew
+        self.world, self.steps = some_steps(chance, bool(self.every))
         pathlib.Path(self.script).write_text("\n".join([self.world, *self.steps]))
         self.opening = self.working = 0.0  # seconds
         self.wanted, self.history = self.without_kills()
@@ -78,7 +88,8 @@ class Run:
 
     def client(self, seconds: float) -> "subprocess.Popen[str]":
         """A client whose services are killed within so many seconds."""
-        words = [self.script, self.journal, str(self.chance.random()), str(seconds)]
+        numbers = [self.chance.random(), seconds, self.every]
+        words = [self.script, self.journal, *map(str, numbers)]
         return subprocess.Popen(
             [sys.executable, "-B", str(HERE / "killed_client.py"), *words, *SERVICE],
             stdout=subprocess.PIPE, text=True,
@@ -129,11 +140,20 @@ class Run:
             raise AssertionError("the history is another one")
 
     def judge_journal(self) -> None:
-        """That the journal has each step once, and that it is a script of the same machine."""
+        """That the journal has each step once, and that it is a script of the same machine.
+
+        One that has begun anew has the last steps after the saved text.
+        """
         text = pathlib.Path(self.journal).read_text()
         world, *records = text.splitlines()
-        kept = [record for record in records if not is_question(record)]
-        if [world, *kept] != [self.world, *(it for it in self.steps if not is_question(it))]:
+        steps = [it for it in self.steps if not is_question(it)]
+        if world != self.world:
+            saved = next(at for at, record in enumerate(records) if record.startswith("saved,"))
+            records = records[saved + 2:]
+        records = [it for it in records if not is_question(it)]
+        if world != self.world:
+            steps = steps[len(steps) - len(records):]
+        if records != steps:
             raise AssertionError("the journal has other steps")
         if history_of(text.encode()) != self.history:
             raise AssertionError("the journal gives another history")
@@ -156,7 +176,7 @@ class TestKills(unittest.TestCase):
     """Random steps and random kills."""
 
     def test_kills(self) -> None:
-        killed = services_killed = runs = 0
+        killed = services_killed = runs = renewed = 0
         while killed + services_killed < KILLS:
             chance = random.Random(f"{SEED} {runs}")
             with tempfile.TemporaryDirectory() as folder:
@@ -166,9 +186,10 @@ class TestKills(unittest.TestCase):
                 except AssertionError:
                     print(f"run {runs} of seed {SEED} is kept in {run.kept()}")
                     raise
-            runs += 1
+            runs, renewed = runs + 1, renewed + (run.every > 0)
             killed, services_killed = killed + run.killed, services_killed + run.services_killed
-        print(f"{runs} runs, {killed} clients killed and {services_killed} services")
+        told = f"{runs} runs, {renewed} of them with journals that begin anew"
+        print(f"{told}, {killed} clients killed and {services_killed} services")
 
     def test_places(self) -> None:
         steps = ["check,0,", "rounds", "send,0,1,", "history", "bundle,1"]

@@ -1,13 +1,16 @@
 """A computation that goes on in a new world, before a tape is full."""
 
 import asyncio
+import fcntl
 import os
 import unittest
 from unittest import mock
 
 from serving import SERVICE, ServiceCase, history_of
 
-from recline import AsyncService, Replay, RolledOver, Service, ServiceEnded, Took
+from recline import (
+    AsyncService, JournalError, Replay, RolledOver, Service, ServiceEnded, Took,
+)
 
 
 def some_work(service: Service) -> None:
@@ -84,6 +87,37 @@ class TestRollOver(ServiceCase):
         )
         with self.kept(durable=True) as service:
             self.assertEqual(service.replayed, 4)
+
+    def test_killed_before_sums(self) -> None:
+        """Where only the checksums are not in their place, the next client puts them there."""
+        service = self.kept(durable=True)
+        some_work(service)
+        replace = os.replace
+        killed = OSError(5, "as if it were killed here")
+        with mock.patch("os.replace", mock.Mock(side_effect=[None, killed])) as patched:
+            self.assertRaises(OSError, service.roll_over)
+        replace(*patched.call_args_list[0].args)
+        service._end(at_once=True)
+        names = ["run.recline", "run.recline.next.sums", "run.recline.sums"]
+        self.assertEqual(sorted(os.listdir(self.folder)), names)
+        with self.kept(durable=True) as service:
+            self.assertEqual(service.replayed, 3)
+        self.assertEqual(sorted(os.listdir(self.folder)), ["run.recline", "run.recline.sums"])
+
+    def test_of_old_file(self) -> None:
+        """A journal that was opened before another one came into its place is not gone on with."""
+        self.kept().close()
+        flock = fcntl.flock
+
+        def late(opened: int, how: int) -> None:
+            if how & fcntl.LOCK_EX:
+                os.replace(self.folder / "other", self.journal)
+            flock(opened, how)
+
+        (self.folder / "other").write_text("world,1,2,fifo\n")
+        with mock.patch("fcntl.flock", late):
+            self.assertRaisesRegex(JournalError, "another client", self.kept)
+        self.assertEqual(self.kept().replayed, 1)
 
     def test_async(self) -> None:
         async def work() -> None:

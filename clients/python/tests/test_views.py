@@ -6,9 +6,10 @@ import unittest
 from serving import SERVICE, ServiceCase, answered, odd
 
 from recline import (
-    Checked, Claim, History, MarkerCame, MessageName, Passed, Plan, Received, Refused, Replay,
-    ReplaysMissing, Sent, Service, Start, Tape, Took,
+    Checked, Claim, Floor, History, MarkerCame, MessageName, Passed, Plan, Received, Refused,
+    Replay, ReplaysMissing, Sent, Service, Start, Tape, Took,
 )
+from recline.records import with_bodies
 
 
 class TestPlans(ServiceCase):
@@ -187,6 +188,32 @@ class TestValues(unittest.TestCase):
         plain = Claim("history,1,1\ntape,0,0\ncheck,a1,-\nfailed\nline,now\nend\n")
         self.assertEqual((plain.failed, plain.line, plain.certificate), ((), (None,), ()))
         self.assertEqual(plain.history.tapes, (Tape(0, (Checked(b"\xa1", None),)),))
+
+    def test_floors(self) -> None:
+        """Values of texts of which the beginning was let go have the numbers of the whole."""
+        head = (
+            "history,4,2\nfloor,0,3,5\nfloor,1,0,0\ntape,0,0\ncheck,61,-\nsend,1,0,6d\n"
+            "check,62,-\ntape,1,3\nrecv,0,0,0\nsend,0,3,6e\n"
+        )
+        floors = (Floor(3, 5), Floor(0, 0))
+        claim = Claim(
+            head + "damage,0,2\nbar,0,1\nbar,1,0\nfailed,0\nline,1,now\npass,1,now,0,0,0\n"
+            "start,0,1,61\nstart,1,3,-\nreplay,0,0,0,1,1,6d\nend\n"
+        )
+        name = MessageName(0, 0, 5)
+        self.assertEqual((claim.history, claim.history.floors), (head, floors))
+        self.assertEqual((claim.damaged, claim.bars), (((0, 4),), ((0, 3), (1, 0))))
+        self.assertEqual((claim.line, claim.certificate), ((3, None), (Passed(1, None, name),)))
+        self.assertEqual(claim.replays, (Replay(name, 1, b"m"),))
+        zero, one = claim.history.tapes
+        self.assertEqual((zero.floor, one.floor), floors)
+        self.assertEqual(list(zero.messages(0)), [(name, Sent(1, 0, b"m"))])
+        self.assertEqual(zero.checks()[4 - zero.floor.first_check], Checked(b"b", None))
+        self.assertEqual(one.events, (Received(name), Sent(0, 3, b"n")))
+        self.assertEqual(list(one.messages(1)), [(MessageName(1, 3, 0), Sent(0, 3, b"n"))])
+        plan = Plan((3, None), (b"a", None), (1, 3), (), (Replay(name, -1, b""),), 1)
+        self.assertEqual(with_bodies(plan, head).replays, (Replay(name, 1, b"m"),))
+        self.assertEqual(History("history,1,1\ntape,0,0\n").floors, ())
 
 
 if __name__ == "__main__":
