@@ -61,6 +61,10 @@ class Service:
         """Whether the first record has come."""
         return self.world is not None
 
+    def begins(self) -> bool:
+        """Whether nothing of a machine has come, so that the next record is the first one."""
+        return self.saved is None and not self.stands()
+
     def drop(self) -> None:
         """Drops the machine."""
         self.world = None
