@@ -1,6 +1,6 @@
 //! Answer records as they come.
-ghost use Rattle.std.specs.Prelude.{None, Some, [], IfOk};
-ghost use Rattle.recline.specs.Services.{service_rules};
+ghost use Rattle.std.specs.Prelude.{Some, [], IfOk};
+ghost use Rattle.recline.specs.Services.{Empty, service_rules};
 ghost use Rattle.recline.specs.Turns.{AnswersText};
 
 use anyhow::Result;
@@ -13,7 +13,7 @@ use std::alloc::Global;
 /// its records is answered before the next one is waited for.
 pub fn answers_to(alloc: Global, records: Vec<u8>) -> Result<(MemSink, Outcome)>
     ensures { IfOk result (λ told.
-        AnswersText service_rules None records.items told.1 (Some []) (Some told.0.bytes)) }
+        AnswersText service_rules Empty records.items told.1 (Some []) (Some told.0.bytes)) }
 {
     let mut source = MemSource::new(records, usize::MAX, None);
     let mut sink = MemSink::new(alloc, usize::MAX, None);
