@@ -18,7 +18,7 @@ use crate::journals::Journal;
 use crate::limits::{MOST_CAPACITY, MOST_WORKERS};
 use crate::links::{Rings, make_rings};
 use crate::parcels::{Packet, Parcel};
-use crate::posts::{Post, open_post};
+use crate::posts::{Post, PostEnds, open_post};
 use crate::refusals::FleetError;
 use crate::replays::no_packets_yet;
 use line_catalogue::Catalogue;
@@ -73,29 +73,40 @@ pub(crate) fn prepare(
     })
 }
 
+/// The ends that all workers hold: of the rings between them, and by worker the one of its report
+/// line that pushes.
+#[derive(Drop)]
+struct FleetEnds {
+    rings: Rings<Parcel>,
+    lines: Vec<Vec<Producer<Event>>>,
+}
+
 /// Makes the workers, each with its own ends of the rings, in room that was made for them.
 fn make_posts(
     alloc: Global,
     history: &History,
     mut journals: Vec<Journal>,
     mut replays: Vec<Vec<VecDeque<Packet>>>,
-    mut rings: Rings<Parcel>,
-    mut lines: Vec<Vec<Producer<Event>>>,
+    ends: FleetEnds,
     mut posts: Vec<Post>,
 ) -> Vec<Post>
     requires fit { IsFitFifo history.now.processes }
     requires journals { (floor : ℕ) × AreJournals history.now.processes floor journals.items }
     requires replays { AreAllReplays history.now.processes (packets_of replays.items) }
     requires rings { AreLinked (length history.now.processes) (length history.now.processes)
-        (out_rows rings.outs.items) (in_rows rings.ins.items) }
+        (out_rows ends.rings.outs.items) (in_rows ends.rings.ins.items) }
     requires lines { (in_lines : List (List (End Event)))
-        × AreLinked (length history.now.processes) 1 (out_rows lines.items) in_lines }
+        × AreLinked (length history.now.processes) 1 (out_rows ends.lines.items) in_lines }
     requires none { posts.items ≡ [] }
     requires room { length history.now.processes ≤ vec_capacity posts }
     ensures { (floor : ℕ) → AreJournals history.now.processes floor journals.items
-        → AreAllMade history.now.processes floor (out_rows rings.outs.items)
-        (in_rows rings.ins.items) (out_rows lines.items) result.items }
+        → AreAllMade history.now.processes floor (out_rows ends.rings.outs.items)
+        (in_rows ends.rings.ins.items) (out_rows ends.lines.items) result.items }
 {
+    let FleetEnds {
+        mut rings,
+        mut lines,
+    } = ends;
     let n = history.n();
     for q in 0..n {
         let me = ProcId::try_new(q, n).unwrap();
@@ -105,7 +116,12 @@ fn make_posts(
         let ins = take_first(&mut rings.ins);
         let mut line = take_first(&mut lines);
         let end = take_first(&mut line);
-        let post = open_post(alloc, me, history, journal, kept, outs, ins, end);
+        let own = PostEnds {
+            outs,
+            ins,
+            line: end,
+        };
+        let post = open_post(alloc, me, history, journal, kept, own);
         posts.push_reserved(post);
     }
     posts
@@ -138,7 +154,8 @@ pub(crate) fn open_all(alloc: Global, history: &History, prepared: Prepared) -> 
     } = prepared;
     let Rings { outs, mut ins } = lines;
     let lines = take_first(&mut ins);
-    let posts = make_posts(alloc, history, journals, replays, rings, outs, posts);
+    let ends = FleetEnds { rings, lines: outs };
+    let posts = make_posts(alloc, history, journals, replays, ends, posts);
     Opened { posts, lines }
 }
 

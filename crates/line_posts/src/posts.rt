@@ -124,6 +124,15 @@ fn make_way(
     Ok(())
 }
 
+/// The ends that a worker holds: of the rings to each process and from each, and of its report
+/// line.
+#[derive(Drop)]
+pub(crate) struct PostEnds {
+    pub(crate) outs: Vec<Producer<Parcel>>,
+    pub(crate) ins: Vec<Consumer<Parcel>>,
+    pub(crate) line: Producer<Event>,
+}
+
 /// A worker at the opening of a generation.
 pub(crate) fn open_post(
     alloc: Global,
@@ -131,20 +140,19 @@ pub(crate) fn open_post(
     history: &History,
     journal: Journal,
     kept: Vec<VecDeque<Packet>>,
-    outs: Vec<Producer<Parcel>>,
-    ins: Vec<Consumer<Parcel>>,
-    line: Producer<Event>,
+    ends: PostEnds,
 ) -> Post
     requires opening { IsOpening (post_of me history.now.processes journal.tape
-        (map deque_items kept.items) (out_ends outs.items) (in_ends ins.items)
-        (known_rows ins.items) (producer_end line) journal.floor journal.rounds) }
+        (map deque_items kept.items) (out_ends ends.outs.items) (in_ends ends.ins.items)
+        (known_rows ends.ins.items) (producer_end ends.line) journal.floor journal.rounds) }
     requires fit { IsFitFifo history.now.processes }
     requires count { journal.n ≡ length history.now.processes }
     requires me { journal.me ≡ me }
     ensures { result ≡ post_of me history.now.processes journal.tape (map deque_items kept.items)
-        (out_ends outs.items) (in_ends ins.items) (known_rows ins.items) (producer_end line)
-        journal.floor journal.rounds }
+        (out_ends ends.outs.items) (in_ends ends.ins.items) (known_rows ends.ins.items)
+        (producer_end ends.line) journal.floor journal.rounds }
 {
+    let PostEnds { outs, ins, line } = ends;
     let incarnation = history.incarnation(me);
     let _limits = history.tape(me);
     let opening = Snapshot::of(history);

@@ -14,12 +14,12 @@ use Rattle.line_posts.proofs.fleets.make_posts.Goals as goal
 
 pub take_first-outs-requires : goal.take_first-outs-requires
 take_first-outs-requires c =
-    rows_left (λ v. out_ends v.items) c.loop-q.rings.outs.items (out_rows c.args.rings.outs.items) c.loop-q.q (length c.args.history.now.processes) (c.loop-q.invariant.made c.requires.journals.0 c.requires.journals.1).outs_left c.requires.rings.senders
+    rows_left (λ v. out_ends v.items) c.loop-q.rings.outs.items (out_rows c.args.ends.rings.outs.items) c.loop-q.q (length c.args.history.now.processes) (c.loop-q.invariant.made c.requires.journals.0 c.requires.journals.1).outs_left c.requires.rings.senders
     (let t = c.loop-q-test.true in let n = c.n-n.ensures.value in omega (arith, t, n))
 
 pub take_first-ins-requires : goal.take_first-ins-requires
 take_first-ins-requires c =
-    rows_left (λ v. in_ends v.items) c.loop-q.rings.ins.items (in_rows c.args.rings.ins.items) c.loop-q.q (length c.args.history.now.processes) (c.loop-q.invariant.made c.requires.journals.0 c.requires.journals.1).ins_left c.requires.rings.receivers
+    rows_left (λ v. in_ends v.items) c.loop-q.rings.ins.items (in_rows c.args.ends.rings.ins.items) c.loop-q.q (length c.args.history.now.processes) (c.loop-q.invariant.made c.requires.journals.0 c.requires.journals.1).ins_left c.requires.rings.receivers
     (let t = c.loop-q-test.true in let n = c.n-n.ensures.value in omega (arith, t, n))
 
 pub take_first-kept-requires : goal.take_first-kept-requires
@@ -29,13 +29,13 @@ take_first-kept-requires c =
 
 pub take_first-line-requires : goal.take_first-line-requires
 take_first-line-requires c =
-    rows_left (λ v. out_ends v.items) c.loop-q.lines.items (out_rows c.args.lines.items) c.loop-q.q (length c.args.history.now.processes) (c.loop-q.invariant.made c.requires.journals.0 c.requires.journals.1).lines_left c.requires.lines.1.senders
+    rows_left (λ v. out_ends v.items) c.loop-q.lines.items (out_rows c.args.ends.lines.items) c.loop-q.q (length c.args.history.now.processes) (c.loop-q.invariant.made c.requires.journals.0 c.requires.journals.1).lines_left c.requires.lines.1.senders
     (let t = c.loop-q-test.true in let n = c.n-n.ensures.value in omega (arith, t, n))
 
 pub take_first-end-requires : goal.take_first-end-requires
 take_first-end-requires c =
     let lt : c.loop-q.q < length c.args.history.now.processes = (let t = c.loop-q-test.true in let n = c.n-n.ensures.value in omega (arith, t, n)) in
-    let row = (next_row (out_rows c.args.lines.items) c.loop-q.q (out_ends c.take_first-line.result.items) (out_rows c.take_first-line.new.items.items) (sym (ap out_rows c.take_first-line.ensures) ∙ (c.loop-q.invariant.made c.requires.journals.0 c.requires.journals.1).lines_left)).0 in
+    let row = (next_row (out_rows c.args.ends.lines.items) c.loop-q.q (out_ends c.take_first-line.result.items) (out_rows c.take_first-line.new.items.items) (sym (ap out_rows c.take_first-line.ensures) ∙ (c.loop-q.invariant.made c.requires.journals.0 c.requires.journals.1).lines_left)).0 in
     let one = sym (ap length row) ∙ c.requires.lines.1.out_count c.loop-q.q lt in
     let l = length-map c.take_first-line.result.items producer_end in
     omega (arith, one, l)
@@ -43,9 +43,9 @@ take_first-end-requires c =
 pub open_post-post-requires-clause-opening : goal.open_post-post-requires-clause-opening
 open_post-post-requires-clause-opening c =
     let lt : c.loop-q.q < length c.args.history.now.processes = (let t = c.loop-q-test.true in let n = c.n-n.ensures.value in omega (arith, t, n)) in
-    let O = out_rows c.args.rings.outs.items in
-    let I = in_rows c.args.rings.ins.items in
-    let L = out_rows c.args.lines.items in
+    let O = out_rows c.args.ends.rings.outs.items in
+    let I = in_rows c.args.ends.rings.ins.items in
+    let L = out_rows c.args.ends.lines.items in
     let out = (next_row O c.loop-q.q (out_ends c.take_first-outs.result.items) (out_rows c.take_first-outs.new.items.items) (sym (ap out_rows c.take_first-outs.ensures) ∙ (c.loop-q.invariant.made c.requires.journals.0 c.requires.journals.1).outs_left)).0 in
     let in_ = (next_row I c.loop-q.q (in_ends c.take_first-ins.result.items) (in_rows c.take_first-ins.new.items.items) (sym (ap in_rows c.take_first-ins.ensures) ∙ (c.loop-q.invariant.made c.requires.journals.0 c.requires.journals.1).ins_left)).0 in
     let line = (next_row L c.loop-q.q (out_ends c.take_first-line.result.items) (out_rows c.take_first-line.new.items.items) (sym (ap out_rows c.take_first-line.ensures) ∙ (c.loop-q.invariant.made c.requires.journals.0 c.requires.journals.1).lines_left)).0 in
@@ -62,9 +62,9 @@ open_post-post-requires-clause-opening c =
 
 pub loop-q-preserved : goal.loop-q-preserved
 loop-q-preserved c =
-    let O = out_rows c.args.rings.outs.items in
-    let I = in_rows c.args.rings.ins.items in
-    let L = out_rows c.args.lines.items in
+    let O = out_rows c.args.ends.rings.outs.items in
+    let I = in_rows c.args.ends.rings.ins.items in
+    let L = out_rows c.args.ends.lines.items in
     let out = (next_row O c.loop-q.q (out_ends c.take_first-outs.result.items) (out_rows c.take_first-outs.new.items.items) (sym (ap out_rows c.take_first-outs.ensures) ∙ (c.loop-q.invariant.made c.requires.journals.0 c.requires.journals.1).outs_left)).0 in
     let in_ = (next_row I c.loop-q.q (in_ends c.take_first-ins.result.items) (in_rows c.take_first-ins.new.items.items) (sym (ap in_rows c.take_first-ins.ensures) ∙ (c.loop-q.invariant.made c.requires.journals.0 c.requires.journals.1).ins_left)).0 in
     let me = (OkIff-at_ok c.try_new.result _ _ _ c.try_new.ensures c.unwrap-me.ensures).1 in
