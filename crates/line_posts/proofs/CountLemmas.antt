@@ -1,5 +1,5 @@
 -- How many messages are in transit, from whom to whom; and one sender after another.
-use Rattle.std.proofs.Common.{cond, zero, suc, true, false, Bool, ◌≡◌, ◌∙◌, ◌+◌, ◌<◌, ◌≤◌, ◌++◌, ◌∷◌, [], ℕ, List, Option, Some, None, length, get_or, set, replicate, refl, sym, ap, subst, inl, inr, arith}
+use Rattle.std.proofs.Common.{cond, zero, suc, true, false, Bool, ◌≡◌, ◌∙◌, ◌+◌, ◌<◌, ◌≤◌, ◌++◌, ◌∷◌, [], ℕ, List, Option, Some, length, get_or, set, replicate, refl, sym, ap, subst, inl, inr, arith}
 use Rattle.std.specs.Prelude.{slice_get, All, ◌==◌, ◌&&◌}
 use Rattle.std.specs.List.{filter}
 use Rattle.std.specs.Option.{option_eq}
@@ -63,19 +63,6 @@ module _ (history : List Process) (messages : List MsgName) (message : MsgName) 
 
   longer : length (messages ++ message ∷ []) ≡ length messages + 1
   longer = length-append messages (message ∷ [])
-
-  pub counted_skip : (counts : List (List ℕ)) (sums : List ℕ) → addressee history message ≡ None → AreCounted history messages counts sums → AreCounted history (messages ++ message ∷ []) counts sums
-  counted_skip counts sums none h = record {
-    square = h.square;
-    each = λ p q lp lq. (
-        let away : goes_between history p q message ≡ false = ap (λ (o : Option ℕ). (message.from == p) && option_eq ◌==◌ o (Some q)) none ∙ elim (message.from == p) as (λ b. (b && false) ≡ false) [ true ↦ refl | false ↦ refl ] in
-        let g = grown p q false away in
-        let e = h.each p q lp lq in
-        omega (arith, g, e));
-    sum_count = h.sum_count;
-    sum = h.sum;
-    few = λ p. (let f = h.few p in omega (arith, f, longer));
-  }
 
   pub counted_more : (q : ℕ) (counts counts' : List (List ℕ)) (sums sums' : List ℕ) → addressee history message ≡ Some q → message.from < length history → q < length history
       → counts' ≡ with_cell counts message.from q (cell_at 0 counts message.from q + 1) → sums' ≡ set sums message.from (get_or sums message.from 0 + 1)

@@ -33,9 +33,6 @@ own_past posts p past = (let l = length-map posts own_process in tape_past (own_
 pub items_past : {T : Type 0} (ends : List (End T)) (q : ℕ) → length ends ≤ q → items_at ends q ≡ []
 items_past ends q past = ap items_of (slice_get_past ends q past)
 
-regroup : (s i r : List Item) → s ++ (i ++ r) ≡ (s ++ i) ++ r
-regroup s i r = sym (append_assoc s i r)
-
 -- of two workers
 pair_accounted : (from to : PostView) → IsPost from → IsPost to → from.opening ≡ to.opening → from.number ≢ to.number → (rest : List Parcel)
     → items_at to.ins from.number ++ rest ≡ items_at from.outs to.number

@@ -18,7 +18,7 @@ use Rattle.line_posts.specs.Parcels.{parcels_of}
 use Rattle.line_posts.specs.Posts.{PostView}
 use Rattle.line_posts.specs.Receipts.{BeginsWithMarker, BeginsWithMessage}
 use Rattle.line_posts.specs.Refusals.{ComesNext, IsNotReceived, MayReceive}
-use Rattle.line_posts.proofs.ReceiveLemmas.{sees_more, sees_taken}
+use Rattle.line_posts.proofs.ReceiveLemmas.{sees_taken}
 
 -- what a worker sees on its rings, from what it saw
 abbrev pub SeesOn : List (End Parcel) → List (List Parcel) → List (End Parcel) → List (List Parcel) → Type 0
@@ -46,11 +46,6 @@ module _ (S V : Vec (Consumer Parcel Global AnyItems) Global) (same : S ≡ V) w
 
   row_shown : (p : ℕ) → row_at (known_rows S.items) p ≡ known_at V.items p
   row_shown p = ap (λ (v : Vec (Consumer Parcel Global AnyItems) Global). row_at (known_rows v.items) p) same ∙ rows_known V.items p
-
-  pub sees_looked : (rows : List (List Parcel)) (old : List (Consumer Parcel Global AnyItems)) (at : ℕ) → StillKnow rows old → IsPrefix (known_at old at) (known_at V.items at) → ((k : ℕ) → (k ≡ at → ⊥) → known_at V.items k ≡ known_at old k)
-      → in_ends V.items ≡ in_ends old → SeesOn (in_ends old) rows (in_ends V.items) (known_rows S.items)
-  sees_looked rows old at know here others ends =
-      subst (λ (v : Vec (Consumer Parcel Global AnyItems) Global). SeesOn (in_ends old) rows (in_ends V.items) (known_rows v.items)) (sym same) (sees_more rows old V.items at know here others ends)
 
   pub sees_popped : (rows : List (List Parcel)) (old looked : List (Consumer Parcel Global AnyItems)) (at : ℕ) (parcel : Parcel) → StillKnow rows old → at < length old → IsPrefix (known_at old at) (known_at looked at)
       → ((k : ℕ) → (k ≡ at → ⊥) → known_at looked k ≡ known_at old k) → known_at looked at ≡ parcel ∷ known_at V.items at → ((k : ℕ) → (k ≡ at → ⊥) → known_at V.items k ≡ known_at looked k)

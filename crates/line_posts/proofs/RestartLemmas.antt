@@ -11,7 +11,7 @@ use Rattle.line_tape.specs.declared.items.Item.TheVariants.{Message}
 use Rattle.line_tape.specs.Fit.{IsFitFifo, link}
 use Rattle.line_tape.specs.Front.{front, HasChoice}
 use Rattle.line_tape.specs.History.{Process, incarnation_at, tape_at}
-use Rattle.line_tape.specs.Line.{events_before, IsConsistent, IsLine}
+use Rattle.line_tape.specs.Line.{events_before, IsConsistent}
 use Rattle.line_tape.specs.Restart.{restarted_history, restarted_event, restarted_incarnation, restarted_process}
 use Rattle.line_tape.specs.Rounds.{rounds_checked}
 use Rattle.line_tape.specs.Survival.{is_allowed, survives, IsLatest}
@@ -38,13 +38,6 @@ module _ (history : List Process) (marks : MarksView) (failed : List Bool) where
       alive : (b allowed : Bool) → (not b && allowed) ≡ true → b ≡ false
       alive true allowed k = cc k
       alive false allowed k = refl
-
-  -- the latest line is one of the history
-  pub latest_is_line : (line : List Choice) → IsLatest history marks failed line → IsLine history line
-  latest_is_line line latest = record {
-    length_is = latest.recoverable.length_is;
-    exist = λ p. has_choice p (choice_at line p) (latest.recoverable.surviving p);
-  }
 
 nothing_lost : (xs ys : List Event) → xs ≡ xs ++ ys → ys ≡ []
 nothing_lost xs ys e = (let a = ap length e in let b = length-append xs ys in nil_from_length ys (omega (arith, a, b)))

@@ -124,17 +124,6 @@ of_none n p packets s = record { square = s; same = λ q k ne. refl }
 pub of_then : (n p : ℕ) (a b c : List (List (List Packet))) → AreOfSender n p a b → AreOfSender n p b c → AreOfSender n p a c
 of_then n p a b c h k = record { square = k.square; same = λ q i ne. k.same q i ne ∙ h.same q i ne }
 
--- reading an event that sends nothing
-pub noted_none : (p number : ℕ) (event : Event) (counts : List ℕ) (packets : List (List (List Packet))) → AreSquare (length counts) packets → ((q : ℕ) → parcels_sent q number (event ∷ []) ≡ [])
-    → IsNoted p number event counts counts packets packets 0
-noted_none p number event counts packets s none = record {
-  sender = of_none (length counts) p packets s;
-  count = refl;
-  sum = omega arith;
-  still = λ q lt. (let z = ap length (none q) in omega (arith, z));
-  queued = λ q lt. sym (ap (λ t. take (get_or counts q 0) t ++ parcels_of (cell_at [] packets q p)) (none q) ∙ ap (λ t. t ++ parcels_of (cell_at [] packets q p)) (take_none (get_or counts q 0)));
-}
-
 -- reading one that sends a message
 noted_put : (p number to inc : ℕ) (body : List ℕ) (counts counts' : List ℕ) (packets packets' : List (List (List Packet))) → to < length counts → p < length counts → AreSquare (length counts) packets
     → 0 < get_or counts to 0 → counts' ≡ set counts to (get_or counts to 0 - 1) → packets' ≡ with_cell packets to p (record { inc = inc; number = number; body = body } ∷ cell_at [] packets to p)
