@@ -1,4 +1,4 @@
-//! One step on one end of a list of ends.
+//! One step on one end of a list of ends, and what holds where the two ends of a ring meet.
 ghost use Rattle.std.specs.Prelude.{◌≡◌, ◌≢◌, ◌++◌, ◌∷◌, [], ◌<◌, ℕ, List, IsTrue, Some, false};
 ghost use Rattle.std.specs.Prelude.{length};
 ghost use mathlib.Core.List.{IsPrefix};
