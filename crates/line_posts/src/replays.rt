@@ -177,7 +177,7 @@ fn note_sent(
 }
 
 /// How many messages the event sends: one or zero.
-fn sent_by(event: &EventRef<'_>) -> u32
+fn send_count(event: &EventRef<'_>) -> u32
     ensures value { result ≡ sends (event_of_ref event.now ∷ []) }
     ensures one { result ≤ 1 }
 {
@@ -218,7 +218,7 @@ fn add_sent(
             return Ok(());
         }
         let event = tape.event(i);
-        number -= sent_by(&event);
+        number -= send_count(&event);
         let taken = note_sent(&event, p, number, counts, packets)?;
         left -= taken;
     }

@@ -28,7 +28,7 @@ loop-i-init c =
     }
 
 pub overflow_sub-number : goal.overflow_sub-number
-overflow_sub-number c = (let b = before c.args.tape.now.events c.loop-i.i (event_of_ref c.event-event.result) (omega arith) c.event-event.ensures in let n = c.loop-i.invariant.number_is in let v = c.sent_by-number.ensures.value in omega (arith, b, n, v))
+overflow_sub-number c = (let b = before c.args.tape.now.events c.loop-i.i (event_of_ref c.event-event.result) (omega arith) c.event-event.ensures in let n = c.loop-i.invariant.number_is in let v = c.send_count-number.ensures.value in omega (arith, b, n, v))
 
 pub note_sent-requires-clause-short : goal.note_sent-requires-clause-short
 note_sent-requires-clause-short c = short_at c.args.tape.now.events (c.loop-i.i - 1) (event_of_ref c.event-event.result) c.len-i.ensures.limits c.event-event.ensures
@@ -56,8 +56,8 @@ loop-i-preserved c =
     let e = event_of_ref c.event-event.result in
     let b = before c.args.tape.now.events c.loop-i.i (event_of_ref c.event-event.result) (omega arith) c.event-event.ensures in
     let n = i.number_is in
-    let v = c.sent_by-number.ensures.value in
-    let at : c.loop-i.number - c.sent_by-number.result ≡ sends (take j T) = omega (arith, b, n, v) in
+    let v = c.send_count-number.ensures.value in
+    let at : c.loop-i.number - c.send_count-number.result ≡ sends (take j T) = omega (arith, b, n, v) in
     let noted : IsNoted c.args.p (sends (take j T)) e c.loop-i.counts.items c.note_sent.new.counts.items (packets_of c.loop-i.packets.items) (packets_of c.note_sent.new.packets.items) c.in_ok-taken.taken =
     subst (λ k. IsNoted c.args.p k e c.loop-i.counts.items c.note_sent.new.counts.items (packets_of c.loop-i.packets.items) (packets_of c.note_sent.new.packets.items) c.in_ok-taken.taken) at c.in_ok-taken.ensures.noted in
     let s = noted.sum in

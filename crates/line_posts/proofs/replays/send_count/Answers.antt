@@ -1,4 +1,4 @@
-use Rattle.line_posts.proofs.replays.sent_by.Goals as goal
+use Rattle.line_posts.proofs.replays.send_count.Goals as goal
 
 pub returns-in-Send-clause-value : goal.returns-in-Send-clause-value
 returns-in-Send-clause-value c = rw c.in-Send.is
