@@ -242,14 +242,9 @@ impl Journal {
         ensures spent { self.old.room ≤ self.new.room + 1 }
         ensures succeeds { 0 < self.old.room → 0 < self.old.ready → IsOk result }
     {
-        let name = MsgName {
-            from: message.from,
-            inc: message.inc,
-            number: message.number,
-        };
         reserve_on(&mut self.tape, &mut self.calls, 1)?;
         self.marker.note(message)?;
-        self.tape.append_receipt(&name);
+        self.tape.append_receipt(&message);
         Ok(())
     }
 
