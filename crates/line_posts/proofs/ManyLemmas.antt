@@ -6,9 +6,8 @@ use Rattle.std.proofs.lemmas.List.{append_assoc, append_cancel_left, append-nil,
 use Rattle.std.proofs.lemmas.List.Elements.{filter_map-append}
 use Rattle.line_tape.specs.Event.{state_of}
 use Rattle.line_tape.specs.declared.events.Event.{Event}
-use Rattle.line_posts.specs.Ends.{End}
+use Rattle.line_posts.specs.Ends.{End, with_items}
 use Rattle.line_posts.specs.Posts.{opening_tape, reported_count, IsPost, PostView}
-use Rattle.line_posts.specs.Reports.{with_items}
 
 pub at_drop : {X : Type 0} (xs : List X) (from i j : ℕ) (e : X) → j ≡ from + i → slice_get xs j ≡ Some e → slice_get (drop from xs) i ≡ Some e
 at_drop [] zero i j e is at = cc at

@@ -7,7 +7,7 @@ use Rattle.std.proofs.lemmas.List.{append-nil, length-map}
 use Rattle.std.proofs.lemmas.Option.{same_Some}
 use Rattle.std.specs.declared.alloc.Global.{Global}
 use Rattle.rtrb.specs.declared.producer.Producer.{Producer}
-use Rattle.line_posts.specs.Ends.{End, items_at, ring_at, row_at, with_item, out_ends, producer_end}
+use Rattle.line_posts.specs.Ends.{End, items_at, ring_at, row_at, with_item, with_items, out_ends, producer_end}
 use Rattle.line_posts.proofs.EndLemmas.{length_item, items_same, items_other}
 use Rattle.line_marker.specs.Recording.{RecordedRound}
 use Rattle.line_tape.specs.declared.events.Event.{Event}
@@ -22,26 +22,26 @@ use Rattle.line_posts.specs.declared.parcels.Parcel.{Parcel}
 use Rattle.line_posts.specs.declared.parcels.Parcel.TheVariants.{Marker}
 use Rattle.line_posts.specs.Parcels.{items_of_packets}
 use Rattle.line_posts.specs.Posts.{IsPost, PostView}
-use Rattle.line_posts.specs.Markers.{and_item, with_others}
+use Rattle.line_posts.specs.Markers.{with_others}
 use Rattle.line_posts.proofs.StepLemmas.{IsStep, stepped, post_step}
 
 -- the first k of these ends, each after one more item
 abbrev pub with_first : {T : Type 0} → List (End T) → ℕ → T → List (End T)
 with_first [] k item = []
 with_first (e ∷ es) zero item = e ∷ es
-with_first (e ∷ es) (suc k) item = and_item e item ∷ with_first es k item
+with_first (e ∷ es) (suc k) item = with_items e (item ∷ []) ∷ with_first es k item
 
 -- the first k of these ends but the one at `me`
 abbrev pub with_others_below : {T : Type 0} → List (End T) → ℕ → ℕ → T → List (End T)
 with_others_below [] me k item = []
 with_others_below (e ∷ es) me zero item = e ∷ es
 with_others_below (e ∷ es) zero (suc k) item = e ∷ with_first es k item
-with_others_below (e ∷ es) (suc me) (suc k) item = and_item e item ∷ with_others_below es me k item
+with_others_below (e ∷ es) (suc me) (suc k) item = with_items e (item ∷ []) ∷ with_others_below es me k item
 
-first_past : {T : Type 0} (es : List (End T)) (k : ℕ) (x : T) → length es ≤ k → with_first es k x ≡ map (λ (other : End T). and_item other x) es
+first_past : {T : Type 0} (es : List (End T)) (k : ℕ) (x : T) → length es ≤ k → with_first es k x ≡ map (λ (other : End T). with_items other (x ∷ [])) es
 first_past [] k x le = refl
 first_past (e ∷ es) zero x le = absurd (omega (arith, le))
-first_past (e ∷ es) (suc k) x le = ap (λ t. and_item e x ∷ t) (first_past es k x (omega (arith, le)))
+first_past (e ∷ es) (suc k) x le = ap (λ t. with_items e (x ∷ []) ∷ t) (first_past es k x (omega (arith, le)))
 
 -- all of them
 pub below_past : {T : Type 0} (es : List (End T)) (me k : ℕ) (x : T) → length es ≤ k → with_others_below es me k x ≡ with_others es me x
@@ -49,7 +49,7 @@ below_past [] me k x le = refl
 below_past (e ∷ es) zero zero x le = absurd (omega (arith, le))
 below_past (e ∷ es) (suc me) zero x le = absurd (omega (arith, le))
 below_past (e ∷ es) zero (suc k) x le = ap (λ t. e ∷ t) (first_past es k x (omega (arith, le)))
-below_past (e ∷ es) (suc me) (suc k) x le = ap (λ t. and_item e x ∷ t) (below_past es me k x (omega (arith, le)))
+below_past (e ∷ es) (suc me) (suc k) x le = ap (λ t. with_items e (x ∷ []) ∷ t) (below_past es me k x (omega (arith, le)))
 
 first_zero : {T : Type 0} (es : List (End T)) (x : T) → with_first es zero x ≡ es
 first_zero [] x = refl

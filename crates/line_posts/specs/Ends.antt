@@ -101,11 +101,15 @@ module _ {T P : Type 0} where
   abbrev pub HaveAllFree : ℕ → List (Vec (Producer T Global P) Global) → Type 0
   HaveAllFree capacity outs = All (λ v. All (HasAllFree capacity) v.items) outs
 
+-- an end, after these items passed it
+abbrev pub with_items : {T : Type 0} → End T → List T → End T
+with_items e items = record e { items = e.items ++ items }
+
 module _ {T : Type 0} where
   -- the ends, after one more item passed the one at q
   abbrev pub with_item : List (End T) → ℕ → T → List (End T)
   with_item [] q item = []
-  with_item (e ∷ es) zero item = record e { items = e.items ++ item ∷ [] } ∷ es
+  with_item (e ∷ es) zero item = with_items e (item ∷ []) ∷ es
   with_item (e ∷ es) (suc q) item = e ∷ with_item es q item
 
   -- what passed an end

@@ -3,20 +3,16 @@ use Rattle.std.specs.Prelude.{ℕ, zero, suc, List, [], ◌∷◌, ◌++◌, len
 use Rattle.line_marker.specs.Recording.{RecordedRound}
 use Rattle.line_tape.specs.declared.events.Event.{Event}
 use Rattle.line_tape.specs.declared.events.Event.TheVariants.{Check, Mark}
-use Rattle.line_posts.specs.Ends.{End, with_item}
+use Rattle.line_posts.specs.Ends.{End, with_item, with_items}
 use Rattle.line_posts.specs.Journals.{rounds_by}
 use Rattle.line_posts.specs.declared.parcels.Parcel.TheVariants.{Marker}
 use Rattle.line_posts.specs.Posts.{PostView}
 
--- an end, after one more item passed it
-abbrev pub and_item : {T : Type 0} → End T → T → End T
-and_item e item = record e { items = e.items ++ item ∷ [] }
-
 -- these ends, after one more item passed each but the one at `me`
 abbrev pub with_others : {T : Type 0} → List (End T) → ℕ → T → List (End T)
 with_others [] me item = []
-with_others (e ∷ es) zero item = e ∷ map (λ other. and_item other item) es
-with_others (e ∷ es) (suc me) item = and_item e item ∷ with_others es me item
+with_others (e ∷ es) zero item = e ∷ map (λ other. with_items other (item ∷ [])) es
+with_others (e ∷ es) (suc me) item = with_items e (item ∷ []) ∷ with_others es me item
 
 -- what a worker has recorded of rounds after an event
 abbrev pub recorded_by : PostView → Event → List RecordedRound

@@ -1,12 +1,8 @@
 -- What a worker puts on its report line.
-use Rattle.std.specs.Prelude.{◌≡◌, ℕ, List, ◌++◌, take, drop}
+use Rattle.std.specs.Prelude.{◌≡◌, ℕ, List, take, drop}
 use Rattle.line_tape.specs.declared.events.Event.{Event}
-use Rattle.line_posts.specs.Ends.{End}
+use Rattle.line_posts.specs.Ends.{with_items}
 use Rattle.line_posts.specs.Posts.{PostView, reported_count}
-
--- an end, after these items passed it
-abbrev pub with_items : {T : Type 0} → End T → List T → End T
-with_items e items = record e { items = e.items ++ items }
 
 -- the next k events that the worker has not reported yet
 abbrev pub next_events : PostView → ℕ → List Event

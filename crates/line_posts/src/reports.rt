@@ -6,10 +6,10 @@ ghost use Rattle.std.specs.VecDeque.{deque_items};
 ghost use Rattle.rtrb.specs.Ring.{known_free};
 ghost use Rattle.line_tape.specs.Event.{state_of, IsShort};
 ghost use Rattle.line_tape.specs.Shown.{event_of_ref};
-ghost use Rattle.line_posts.specs.Ends.{producer_end, slots_of};
+ghost use Rattle.line_posts.specs.Ends.{producer_end, slots_of, with_items};
 ghost use Rattle.line_posts.specs.Posts.{reported_count};
 ghost use Rattle.line_posts.specs.Generations.{IsSamePost};
-ghost use Rattle.line_posts.specs.Reports.{with_items, HasReported};
+ghost use Rattle.line_posts.specs.Reports.{HasReported};
 
 use crate::posts::Post;
 use crate::refusals::ReportError;

@@ -5,9 +5,8 @@ use Rattle.std.specs.Prelude.{slice_get}
 use Rattle.line_tape.specs.declared.events.Event.{Event}
 use Rattle.line_tape.specs.Event.{state_of}
 use Rattle.line_tape.specs.Shown.{event_of_ref}
-use Rattle.line_posts.specs.Ends.{producer_end}
+use Rattle.line_posts.specs.Ends.{producer_end, with_items}
 use Rattle.line_posts.proofs.EndLemmas.{producer_more}
-use Rattle.line_posts.specs.Reports.{with_items}
 use Rattle.line_posts.proofs.ManyLemmas.{at_drop, copied_more, next_of, states_first, states_left, with_more, with_none}
 use Rattle.line_posts.proofs.ReplayLemmas.{short_at}
 use Rattle.line_posts.proofs.reports.put_each.Goals as goal

@@ -3,8 +3,7 @@ use Rattle.std.specs.List.{filter_map}
 use Rattle.std.specs.VecDeque.{deque_items}
 use Rattle.rtrb.specs.Ring.{known_free}
 use Rattle.line_tape.specs.Event.{state_of}
-use Rattle.line_posts.specs.Ends.{producer_end}
-use Rattle.line_posts.specs.Reports.{with_items}
+use Rattle.line_posts.specs.Ends.{producer_end, with_items}
 use Rattle.line_posts.proofs.reports.put_each.Given as goal
 
 abbrev pub invariant-loop-i : goal.invariant-loop-i

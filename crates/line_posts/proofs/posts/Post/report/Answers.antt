@@ -2,9 +2,8 @@ use Rattle.std.proofs.Common.{◌≡◌, ◌∙◌, ◌+◌, List, length, take,
 use Rattle.std.proofs.lemmas.List.{length-append}
 use Rattle.line_tape.specs.declared.events.Event.{Event}
 use Rattle.line_tape.specs.History.{tape_at}
-use Rattle.line_posts.specs.Ends.{End, producer_end}
+use Rattle.line_posts.specs.Ends.{End, producer_end, with_items}
 use Rattle.line_posts.proofs.EndLemmas.{producer_kept}
-use Rattle.line_posts.specs.Reports.{with_items}
 use Rattle.line_posts.proofs.ManyLemmas.{reported_within, reported_more, report_all}
 use Rattle.line_posts.proofs.posts.Post.report.Goals as goal
 
