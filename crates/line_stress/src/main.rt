@@ -52,8 +52,36 @@ struct Place {
     capacity: usize,
 }
 
+/// A lineage on its way: the generation that it is at, its dice, and the marks of damage that its
+/// history has.
+#[derive(Drop)]
+struct Lineage {
+    place: Place,
+    dice: Dice,
+    marks: Marks,
+}
+
+impl Lineage {
+    /// A lineage by its seed and number, before its first generation.
+    fn new(alloc: Global, seed: u64, number: u64) -> Result<Lineage> {
+        let mut dice = Dice::new(seed ^ number.wrapping_mul(0xD6E8_FEB8_6659_FD93));
+        let n = workers(&mut dice);
+        let place = Place {
+            seed,
+            lineage: number,
+            generation: 0,
+            n,
+            capacity: capacity(&mut dice),
+        };
+        let marks = Marks::new(alloc, n)?;
+        Ok(Lineage { place, dice, marks })
+    }
+}
+
 /// What the workers of the next generation do.
-fn next_work(alloc: Global, dice: &mut Dice, n: u32, marks: &Marks) -> Result<RandomWork> {
+fn next_work(alloc: Global, lineage: &mut Lineage) -> Result<RandomWork> {
+    let n = lineage.place.n;
+    let dice = &mut lineage.dice;
     let settings = next_settings(dice, n);
     let mut turns = Vec::new(alloc);
     let mut logs = Vec::new(alloc);
@@ -78,7 +106,7 @@ fn next_work(alloc: Global, dice: &mut Dice, n: u32, marks: &Marks) -> Result<Ra
         turns,
         failed,
         everyone,
-        marks: marks.copy(alloc)?,
+        marks: lineage.marks.copy(alloc)?,
         started: AtomicU32::new(0),
         ended: AtomicU32::new(0),
         logs,
@@ -89,13 +117,13 @@ fn next_work(alloc: Global, dice: &mut Dice, n: u32, marks: &Marks) -> Result<Ra
 /// Prints what a generation did before it was gathered.
 fn tell_workers<R: Print>(
     rt: &R,
-    alloc: Global,
     text: &mut Text,
     place: Place,
     work: &RandomWork,
     collector: &Collector,
     posts: &Vec<Post>,
 ) -> Result<()> {
+    let alloc = work.alloc;
     let (generation, n) = (u64::from(place.generation), u64::from(place.n));
     let capacity = place.capacity as u64;
     text.row(
@@ -118,20 +146,15 @@ fn tell_workers<R: Print>(
 }
 
 /// Marks a random check of a random process as damaged, and prints whether the mark was refused.
-fn damage(
-    dice: &mut Dice,
-    text: &mut Text,
-    gathered: &mut Gathered,
-    marks: &mut Marks,
-) -> Result<()> {
+fn damage(text: &mut Text, lineage: &mut Lineage, gathered: &mut Gathered) -> Result<()> {
     let n = gathered.history().n();
-    let p = ProcId::try_new(dice.below(n.max(1)), n)?;
+    let p = ProcId::try_new(lineage.dice.below(n.max(1)), n)?;
     let checks = gathered.history().tape(p).checks();
-    let check = dice.below(checks.wrapping_add(2).max(1));
+    let check = lineage.dice.below(checks.wrapping_add(2).max(1));
     let code = match gathered.damage(p, check) {
         Ok(()) => {
-            if (p.get() as usize) < marks.processes() {
-                marks.mark(p, check)?;
+            if (p.get() as usize) < lineage.marks.processes() {
+                lineage.marks.mark(p, check)?;
             }
             100
         }
@@ -147,22 +170,22 @@ fn damage(
 fn tell_gathered<R: Print>(
     rt: &R,
     alloc: Global,
-    dice: &mut Dice,
     text: &mut Text,
+    lineage: &mut Lineage,
     work: &RandomWork,
     gathered: &mut Gathered,
-    marks: &mut Marks,
 ) -> Result<()> {
     print_history(rt, alloc, "gathered", gathered.history())?;
     match work.watch.get() {
         Some(watch) => text.watch(watch, gathered.history())?,
         None => text.row("watch", &[])?,
     }
-    for _mark in 0..dice.below(work.settings.damages.wrapping_add(1).max(1)) {
-        damage(dice, text, gathered, marks)?;
+    let damages = work.settings.damages.wrapping_add(1).max(1);
+    for _mark in 0..lineage.dice.below(damages) {
+        damage(text, lineage, gathered)?;
     }
     let plan = gathered.plan()?;
-    let is_right = is_right(gathered.history(), marks, &work.failed, &plan);
+    let is_right = is_right(gathered.history(), &lineage.marks, &work.failed, &plan);
     text.row("planned", &[u64::from(is_right)])?;
     text.plan(&plan)?;
     text.print(rt)
@@ -184,22 +207,20 @@ fn events_in(history: &History) -> u64 {
 fn generation<R: Threads + Wait + Sync + Print>(
     rt: &R,
     alloc: Global,
-    dice: &mut Dice,
     text: &mut Text,
-    place: Place,
+    lineage: &mut Lineage,
     collector: Collector,
     posts: Vec<Post>,
-    marks: &mut Marks,
 ) -> Result<Gathered>
     requires generation { IsGeneration posts.items }
     requires lines { AreLined collector posts.items }
 {
-    let work = next_work(alloc, dice, place.n, marks)?;
+    let work = next_work(alloc, lineage)?;
     let (collector, posts) = run_crew(rt, &work, collector, posts)?;
-    tell_workers(rt, alloc, text, place, &work, &collector, &posts)?;
+    tell_workers(rt, text, lineage.place, &work, &collector, &posts)?;
     match gather(collector, posts, work.failed) {
         Ok(mut gathered) => {
-            tell_gathered(rt, alloc, dice, text, &work, &mut gathered, marks)?;
+            tell_gathered(rt, alloc, text, lineage, &work, &mut gathered)?;
             Ok(gathered)
         }
         Err(refused) => Err(refused.why.into()),
@@ -210,53 +231,38 @@ fn generation<R: Threads + Wait + Sync + Print>(
 fn next<R: Threads + Wait + Sync + Print>(
     rt: &R,
     alloc: Global,
-    dice: &mut Dice,
     text: &mut Text,
-    place: Place,
+    lineage: &mut Lineage,
     gathered: Gathered,
-    marks: &mut Marks,
 ) -> Result<Gathered> {
     match gathered.restart() {
         Ok((collector, posts, plan)) => {
             text.row("restarted", &[])?;
             text.plan(&plan)?;
-            if marks.processes() <= plan.line.choices().len() {
-                marks.restart(&plan.line);
+            if lineage.marks.processes() <= plan.line.choices().len() {
+                lineage.marks.restart(&plan.line);
             }
-            generation(rt, alloc, dice, text, place, collector, posts, marks)
+            generation(rt, alloc, text, lineage, collector, posts)
         }
         Err(refused) => Err(refused.why.into()),
     }
 }
 
 /// Opens a fleet, and runs the generations that go on from it.
-fn lineage<R: Threads + Wait + Sync + Print>(
+fn run_lineage<R: Threads + Wait + Sync + Print>(
     rt: &R,
     alloc: Global,
     text: &mut Text,
-    seed: u64,
-    lineage: u64,
+    lineage: &mut Lineage,
 ) -> Result<()> {
-    let mut dice = Dice::new(seed ^ lineage.wrapping_mul(0xD6E8_FEB8_6659_FD93));
-    let n = workers(&mut dice);
-    let mut place = Place {
-        seed,
-        lineage,
-        generation: 0,
-        n,
-        capacity: capacity(&mut dice),
-    };
-    let mut marks = Marks::new(alloc, n)?;
-    let (collector, posts) = fleet(alloc, n, place.capacity)?;
-    let mut gathered = generation(
-        rt, alloc, &mut dice, text, place, collector, posts, &mut marks,
-    )?;
-    for generation in 1..dice.to(MOST_GENERATIONS) {
+    let (collector, posts) = fleet(alloc, lineage.place.n, lineage.place.capacity)?;
+    let mut gathered = generation(rt, alloc, text, lineage, collector, posts)?;
+    for number in 1..lineage.dice.to(MOST_GENERATIONS) {
         if events_in(gathered.history()) > MANY_EVENTS {
             return Ok(());
         }
-        place.generation = generation;
-        gathered = next(rt, alloc, &mut dice, text, place, gathered, &mut marks)?;
+        lineage.place.generation = number;
+        gathered = next(rt, alloc, text, lineage, gathered)?;
     }
     Ok(())
 }
@@ -274,7 +280,8 @@ fn lineages<R: Threads + Wait + Sync + Print + Clock>(
         if start.elapsed(rt)?.as_secs() >= seconds {
             return Ok(());
         }
-        lineage(rt, alloc, &mut text, seed, from.wrapping_add(k))?;
+        let mut lineage = Lineage::new(alloc, seed, from.wrapping_add(k))?;
+        run_lineage(rt, alloc, &mut text, &mut lineage)?;
     }
     Ok(())
 }
