@@ -2,7 +2,7 @@
 
 use crate::dice::Dice;
 use line_check::{check_certificate, check_consistent};
-use line_names::{Line, ProcId, ProcSet};
+use line_names::{Line, MOST_PROCESSES, ProcId, ProcSet};
 use line_plan::Plan;
 use line_posts::Collector;
 use line_tape::{History, Marks};
@@ -31,7 +31,7 @@ pub struct Watch {
 fn same_line(line: &Line) -> Line {
     let mut same = Line::new();
     for choice in line.choices() {
-        if same.len() < 64 {
+        if (same.len() as usize) < MOST_PROCESSES {
             same.push(*choice);
         }
     }
