@@ -232,10 +232,7 @@ impl Live {
         ensures unrefused { IsErrOf result StepError.OutOfMemory
             → refusal_of self.old.kept (cut_step self.old.floor (step_of_ref step.now)) ≡ None }
     {
-        if self.forgot {
-            return step_kept(alloc, &mut self.world, &self.floor, step);
-        }
-        self.world.step_lent(alloc, step)
+        step_kept(alloc, &mut self.world, &self.floor, self.forgot, step)
     }
 
     /// Takes steps, one after another, and answers each.
