@@ -12,14 +12,11 @@ def parser(doc: str | None) -> argparse.ArgumentParser:
     return argparse.ArgumentParser(description=doc, formatter_class=form)
 
 
-def option(doc: str | None, *options: str) -> str | None:
-    """Which of these options the words give, one at most, or none where there is no word."""
-    words = parser(doc)
+def add_options(words: argparse.ArgumentParser, *options: str) -> None:
+    """Adds options of which one at most is given, and is `option` then."""
     one = words.add_mutually_exclusive_group()
     for name in options:
         one.add_argument(f"--{name}", dest="option", action="store_const", const=name)
-    given: str | None = words.parse_args().option
-    return given
 
 
 def report(found: Iterable[str]) -> int:

@@ -1,30 +1,26 @@
-#!/usr/bin/env python3
 """Lists the definitions of crates/*/specs: each with its file, its lines and its source.
 
-    scripts/list_definitions            prints an index: every definition, and how many lines
-    scripts/list_definitions --write    writes the total in docs/DEFINITIONS.md, and anew in the
+    scripts/docs definitions            prints an index: every definition, and how many lines
+    scripts/docs definitions --write    writes the total in docs/DEFINITIONS.md, and anew in the
                                         README.md of each crate what it quotes of the code, and what
                                         crates.txt says that it stands on
-    scripts/list_definitions --check    ends with status 1 where that total is another, or where
+    scripts/docs definitions --check    ends with status 1 where that total is another, or where
                                         the README.md of a crate lacks a heading, names other edits
                                         than stand in its must-fail/ and its further-edits/, lists
                                         other crates that it stands on, or quotes a contract that
                                         the code has not
-    scripts/list_definitions --reached  prints the lines of definitions that public calls reach
-    scripts/list_definitions --counts   prints the size of each crate: lines and characters
-    scripts/list_definitions --homonyms prints the names that stand for two things, with where these
+    scripts/docs definitions --reached  prints the lines of definitions that public calls reach
+    scripts/docs definitions --counts   prints the size of each crate: lines and characters
+    scripts/docs definitions --homonyms prints the names that stand for two things, with where these
                                         are, and ends with status 1 where there is one
 
 The source is the one that the first line of the file names: CL, LY, EAWJ and M as
 docs/DEFINITIONS.md abbreviates them, and nothing where a definition is this project's own.
 """
 
-import pathlib
+import argparse
 import re
-import sys
 from collections.abc import Callable
-
-sys.dont_write_bytecode = True  # leaves nothing beside the scripts
 
 import command_lines
 import counts
@@ -111,29 +107,29 @@ def words() -> str:
 
 def faults() -> list[str]:
     """What is wrong in the documents."""
-    anew = "scripts/list_definitions --write makes it anew"
+    anew = "scripts/docs definitions --write makes it anew"
     found = readmes.faults()
     if not TOTAL.search(words()) or WORDS.read_text(encoding="utf-8") != words():
         found.append(f"docs/DEFINITIONS.md: the total isn't that of the definitions; {anew}")
     return found
 
 
-def main() -> int:
+def add_words(words: argparse.ArgumentParser) -> None:
+    """Adds the words of this job to those that are read."""
+    command_lines.add_options(words, "write", "check", "reached", "counts", "homonyms")
+
+
+def run(asked: argparse.Namespace) -> int:
     """Does what the words ask for, and answers the status."""
     prints: dict[str | None, Callable[[], str]] = {
         None: index, "reached": table_of_sizes, "counts": counts.table,
     }
     looks = {"check": faults, "homonyms": homonyms.homonyms}
-    asked = command_lines.option(__doc__, "write", "check", "reached", "counts", "homonyms")
-    if asked in looks:
-        return command_lines.report(looks[asked]())
-    if asked == "write":
+    if asked.option in looks:
+        return command_lines.report(looks[asked.option]())
+    if asked.option == "write":
         WORDS.write_text(words(), encoding="utf-8")
         readmes.write()
     else:
-        print(prints[asked]().rstrip("\n"))
+        print(prints[asked.option]().rstrip("\n"))
     return 0
-
-
-if __name__ == "__main__":
-    sys.exit(main())

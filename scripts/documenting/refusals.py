@@ -1,22 +1,19 @@
-#!/usr/bin/env python3
 """Lists the refusals and faults: number, name, sentence, and where each can come.
 
-    scripts/list_refusals            prints docs/REFUSALS.md as it has to be
-    scripts/list_refusals --write    writes it
-    scripts/list_refusals --check    ends with status 1 where it is another, or where a number, a
+    scripts/docs refusals            prints docs/REFUSALS.md as it has to be
+    scripts/docs refusals --write    writes it
+    scripts/docs refusals --check    ends with status 1 where it is another, or where a number, a
                                      name or an order of asking that is written elsewhere is not
                                      that of the code: in another crate, in definitions, in
                                      docs/FORMATS.md, in the client, in scripts and in examples
 """
 
+import argparse
 import ast
 import pathlib
 import re
-import sys
 from collections.abc import Iterator
 from functools import cache
-
-sys.dont_write_bytecode = True  # leaves nothing beside the scripts
 
 import command_lines
 import definitions
@@ -32,7 +29,7 @@ MACHINE = ROOT / "scripts" / "slow_model" / "machine.py"
 SHOWN = ["StepError", "ForgetError", "Fault", "FaultCode", "ServeError", "BodyError"]
 HEAD = """# Refusals and faults, by number
 
-Printed by `scripts/list_refusals --write` from the code; `--check` compares it, and what is \
+Printed by `scripts/docs refusals --write` from the code; `--check` compares it, and what is \
 written elsewhere of these numbers. `docs/FORMATS.md` says what each means to whoever writes a text.
 
 A number has one name, in all crates. What an error says to a person may differ with what was \
@@ -189,21 +186,21 @@ def faults() -> list[str]:
         return found
     found = [*faults_of_pairs(), *faults_of_tables(), *faults_of_reports(), *faults_of_orders()]
     if not PAGE.is_file() or read(PAGE) != page():
-        found.append("docs/REFUSALS.md is another; scripts/list_refusals --write makes it anew")
+        found.append("docs/REFUSALS.md is another; scripts/docs refusals --write makes it anew")
     return found
 
 
-def main() -> int:
+def add_words(words: argparse.ArgumentParser) -> None:
+    """Adds the words of this job to those that are read."""
+    command_lines.add_options(words, "write", "check")
+
+
+def run(given: argparse.Namespace) -> int:
     """Does what the words ask for, and answers the status."""
-    asked = command_lines.option(__doc__, "write", "check")
-    if asked == "check":
+    if given.option == "check":
         return command_lines.report(faults())
-    if asked == "write":
+    if given.option == "write":
         PAGE.write_text(page(), encoding="utf-8")
     else:
         print(page(), end="")
     return 0
-
-
-if __name__ == "__main__":
-    sys.exit(main())

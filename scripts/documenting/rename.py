@@ -1,7 +1,6 @@
-#!/usr/bin/env python3
 """Renames definitions of specs/ everywhere, each in its scope, by a table.
 
-    scripts/rename_definitions ROOT TABLE [--dry] [--all-left]
+    scripts/docs rename ROOT TABLE [--dry] [--all-left]
 
 A line of the table: CRATE MODULE OLD NEW (# begins a comment). A definition is renamed in its own
 module and in each file of crates/ (specs, proofs, code in clauses and ghost members, edits) that
@@ -13,13 +12,10 @@ BOUND (an occurrence that stays, since a binder hides the definition there), LOO
 document to read). --dry writes nothing; --all-left tells all BOUND places, else only their files.
 """
 
+import argparse
 import pathlib
 import re
-import sys
 
-sys.dont_write_bytecode = True  # leaves nothing beside the scripts
-
-import command_lines
 from renames import (
     DEFINED, USE, Change, Row, applied, has_name, in_antt, in_code, in_uses, is_parameter, said,
     tell,
@@ -278,14 +274,16 @@ def rows_of(table: pathlib.Path) -> list[Row]:
     return [Row(*it) for it in cells if it]
 
 
-def main() -> int:
-    """Renames, and answers 1 where a rename was refused."""
-    words = command_lines.parser(__doc__)
+def add_words(words: argparse.ArgumentParser) -> None:
+    """Adds the words of this job to those that are read."""
     words.add_argument("root", type=pathlib.Path, metavar="ROOT", help="the repository")
     words.add_argument("table", type=pathlib.Path, metavar="TABLE", help="what is renamed")
     words.add_argument("--dry", action="store_true", help="writes nothing")
     words.add_argument("--all-left", action="store_true", help="tells all BOUND places")
-    asked = words.parse_args()
+
+
+def run(asked: argparse.Namespace) -> int:
+    """Renames, and answers 1 where a rename was refused."""
     rows = rows_of(asked.table)
     tree = Tree(asked.root.resolve())
     tree.run(rows)
@@ -300,7 +298,3 @@ def main() -> int:
     print(f"{len(rows) - len(refused)} of {len(rows)} renamed, {len(refused)} refused; "
           f"{count} files written")
     return 1 if refused else 0
-
-
-if __name__ == "__main__":
-    sys.exit(main())

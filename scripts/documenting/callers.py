@@ -1,23 +1,20 @@
-#!/usr/bin/env python3
 """Puts callers of crates/line_uses into docs/LIBRARY.md, where they are shown.
 
-    scripts/show_callers --write    writes them
-    scripts/show_callers --check    ends with status 1 where docs/LIBRARY.md shows another text;
-                                    so does the script without an option
+    scripts/docs callers --write    writes them
+    scripts/docs callers --check    ends with status 1 where docs/LIBRARY.md shows another text;
+                                    so does the job without an option
 
 A line `<!-- crates/line_uses/src/FILE.rt: NAME -->` stands before the function that it names, which
 is shown as it stands there, indented by four blanks and without its comment.
 """
 
+import argparse
 import pathlib
 import re
-import sys
-
-sys.dont_write_bytecode = True  # leaves nothing beside the scripts
 
 import command_lines
+from workspace import ROOT
 
-ROOT = pathlib.Path(__file__).resolve().parent.parent
 PAGE = ROOT / "docs" / "LIBRARY.md"
 SHOWN = re.compile(r"^<!-- (crates/line_uses/src/\w+\.rt): (\w+) -->\n\n(?:(?:    .*)?\n)*", re.M)
 
@@ -48,16 +45,17 @@ def faults() -> list[str]:
     if page() == PAGE.read_text(encoding="utf-8"):
         return []
     return ["docs/LIBRARY.md shows other callers than crates/line_uses has; "
-            "scripts/show_callers --write shows them anew"]
+            "scripts/docs callers --write shows them anew"]
 
 
-def main() -> int:
+def add_words(words: argparse.ArgumentParser) -> None:
+    """Adds the words of this job to those that are read."""
+    command_lines.add_options(words, "write", "check")
+
+
+def run(asked: argparse.Namespace) -> int:
     """Does what the words ask for, and answers the status."""
-    if command_lines.option(__doc__, "write", "check") == "write":
+    if asked.option == "write":
         PAGE.write_text(page(), encoding="utf-8")
         return 0
     return command_lines.report(faults())
-
-
-if __name__ == "__main__":
-    sys.exit(main())

@@ -1,9 +1,8 @@
-#!/usr/bin/env python3
 """Prints what documents say of the code: definitions, the library, crates, sizes.
 
-    scripts/print_docs            prints each printed part, with its document
-    scripts/print_docs --write    writes them into the documents
-    scripts/print_docs --check    ends with status 1 where a document has another text there, or
+    scripts/docs parts            prints each printed part, with its document
+    scripts/docs parts --write    writes them into the documents
+    scripts/docs parts --check    ends with status 1 where a document has another text there, or
                                   where a definition that public calls reach has no comment, a
                                   call of the library no docstring, or a crate no README.md that
                                   begins with what it is
@@ -16,14 +15,12 @@ definition that the contracts of public calls reach, with the comment that stand
 and the first paragraph of each README.md, and their sizes.
 """
 
+import argparse
 import re
 import sys
 from collections.abc import Callable
 from itertools import groupby
 
-sys.dont_write_bytecode = True  # leaves nothing beside the scripts
-
-import command_lines
 import counts
 import definitions
 import references
@@ -115,7 +112,7 @@ def with_part(text: str, name: str, printed: str) -> str:
     before, has_begin, rest = text.partition(begin)
     _, has_end, after = rest.partition(end)
     if not has_begin or not has_end:
-        sys.exit(f"print_docs: there is no part {name} in its document")
+        sys.exit(f"docs parts: there is no part {name} in its document")
     return f"{before}{begin}\n\n{printed}\n\n{end}{after}"
 
 
@@ -128,12 +125,14 @@ def lacking() -> list[str]:
     return found + references.lacking()
 
 
-def main() -> int:
-    """Prints, writes or compares the parts, and answers the status."""
-    words = command_lines.parser(__doc__)
+def add_words(words: argparse.ArgumentParser) -> None:
+    """Adds the words of this job to those that are read."""
     words.add_argument("--write", action="store_true")
     words.add_argument("--check", action="store_true")
-    asked = words.parse_args()
+
+
+def run(asked: argparse.Namespace) -> int:
+    """Prints, writes or compares the parts, and answers the status."""
     differ = []
     for document, name, part in PARTS:
         path, printed = DOCS / document, part()
@@ -144,11 +143,7 @@ def main() -> int:
         elif not asked.check:
             print(f"docs/{document}, {name}:\n\n{printed}\n")
         elif have != wanted:
-            differ.append(f"docs/{document}: the part {name} is not what print_docs prints")
+            differ.append(f"docs/{document}: the part {name} is not what scripts/docs parts prints")
     faults = differ + lacking() if asked.check else []
     print("\n".join(faults), end="\n" if faults else "")
     return 1 if faults else 0
-
-
-if __name__ == "__main__":
-    sys.exit(main())

@@ -1,7 +1,6 @@
-#!/usr/bin/env python3
 """Draws and explains examples, for docs/pictures.
 
-Usage: scripts/draw_examples [--check] [--program PATH]
+Usage: scripts/docs pictures [--check] [--program PATH]
 
 Each picture docs/pictures/NAME.svg is of the script examples/run/NAME.in, or of the reports
 examples/collect/NAME.in, drawn with `--bodies`, and each NAME.txt there is its explanation; of a
@@ -10,15 +9,12 @@ what is stored has to be what would be, byte for byte, and there has to be nothi
 line says how many are.
 """
 
-import pathlib
-import sys
+import argparse
 
-sys.dont_write_bytecode = True  # leaves nothing beside the scripts
-
-import command_lines
+import workspace
 from pictures import drawing, explaining, program, svg, views
 
-TOP = pathlib.Path(__file__).resolve().parent.parent
+TOP = workspace.ROOT
 PICTURES, EXAMPLES = TOP / "docs" / "pictures", TOP / "examples"
 DRAWN = [
     "barred_process",
@@ -95,7 +91,7 @@ def is_stored(name: str, content: str) -> bool:
     file = PICTURES / name
     if file.is_file() and file.read_text(encoding="utf-8") == content:
         return True
-    print(f"docs/pictures/{name}: not what would be drawn; `scripts/draw_examples` writes it anew")
+    print(f"docs/pictures/{name}: not what would be drawn; `scripts/docs pictures` writes it anew")
     return False
 
 
@@ -109,16 +105,18 @@ def check(wanted: dict[str, str]) -> int:
     return 0 if all(right) and not strange else 1
 
 
-def main() -> int:
-    """Writes or compares all files, and answers the status."""
-    line = command_lines.parser(__doc__)
+def add_words(line: argparse.ArgumentParser) -> None:
+    """Adds the words of this job to those that are read."""
     line.add_argument("--check", action="store_true", help="compare, and write nothing")
     line.add_argument("--program", default=str(program.PROGRAM), help="the program (./recline)")
-    asked = line.parse_args()
+
+
+def run(asked: argparse.Namespace) -> int:
+    """Writes or compares all files, and answers the status."""
     try:
         wanted = made(asked.program)
     except program.Fault as fault:
-        return program.tell("draw_examples", fault)
+        return program.tell("docs pictures", fault)
     if asked.check:
         return check(wanted)
     PICTURES.mkdir(parents=True, exist_ok=True)
@@ -126,7 +124,3 @@ def main() -> int:
         (PICTURES / name).write_text(content, encoding="utf-8")
     print(f"{len(wanted)} files written to docs/pictures")
     return 0
-
-
-if __name__ == "__main__":
-    sys.exit(main())
