@@ -26,12 +26,9 @@ def report(found: Iterable[str]) -> int:
     return 1 if lines else 0
 
 
-def program(doc: str | None) -> str | None:
-    """The program that the only word names, or none where there is no word."""
-    words = parser(doc)
+def add_program(words: argparse.ArgumentParser) -> None:
+    """Adds a word that names a program, and may be left out."""
     words.add_argument("program", nargs="?", metavar="PROGRAM", help="the program that is run")
-    named: str | None = words.parse_args().program
-    return named
 
 
 def runs(program: str | pathlib.Path) -> bool:

@@ -1,4 +1,4 @@
-"""Tests of pictures and sentences of reports, which scripts/test_pictures runs."""
+"""Tests of pictures and sentences of reports, which scripts/trial pictures runs."""
 
 import random
 

@@ -1,4 +1,4 @@
-"""Services that are wrong, each in one way: what `scripts/hostile_service` has to find."""
+"""Services that are wrong, each in one way: what `scripts/trial service` has to find."""
 
 import contextlib
 import mmap

@@ -144,7 +144,7 @@ class TestFiles(unittest.TestCase):
             self.merge()
 
     def test_calls_return_at_once(self) -> None:
-        """A call takes some microseconds; scripts/test_hub --measure says how many."""
+        """A call takes some microseconds; scripts/trial hub --measure says how many."""
         with Reporter(0, 2, self.paths[0]) as reporter:
             took = []
             for _ in range(2_001):

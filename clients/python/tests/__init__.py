@@ -1,1 +1,1 @@
-"""Tests of the client and of from_logs.py. scripts/test_client runs them."""
+"""Tests of the client and of from_logs.py. scripts/trial client runs them."""

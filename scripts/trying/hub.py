@@ -1,8 +1,7 @@
-#!/usr/bin/env python3
 """Tests reporters and the hub, which take what processes did wherever they run.
 
-Usage: scripts/test_hub [--collect COMMAND] [--runs N] [--kills N] [--ranks N] [--turns N]
-                        [--seed S] [--measure] [NAME..]
+Usage: scripts/trial hub [--collect COMMAND] [--runs N] [--kills N] [--ranks N] [--turns N]
+                         [--seed S] [--measure] [NAME..]
 
 The tests of clients/python/hub_tests are run: files of notes, what a hub keeps, whom it refuses,
 and its recoveries. Then some trials, in each of which ranks compute and report to a hub, while
@@ -15,21 +14,18 @@ a second, and nothing else is done. A NAME is a test, such as `test_hubs.TestPee
 
 import argparse
 import os
-import pathlib
 import subprocess
 import sys
 
-sys.dont_write_bytecode = True  # leaves nothing beside the scripts
-
 import command_lines
+import workspace
 
-TOP = pathlib.Path(__file__).resolve().parent.parent
+TOP = workspace.ROOT
 TESTS = TOP / "clients" / "python" / "hub_tests"
 
 
-def words() -> argparse.Namespace:
-    """What is asked for."""
-    line = command_lines.parser(__doc__)
+def add_words(line: argparse.ArgumentParser) -> None:
+    """Adds the words of this job to those that are read."""
     line.add_argument("--collect", default="", help="the service (recline collect)")
     line.add_argument("--runs", type=int, default=2, help="how many trials (2)")
     line.add_argument("--kills", type=int, default=6, help="how often one kills something (6)")
@@ -38,12 +34,10 @@ def words() -> argparse.Namespace:
     line.add_argument("--seed", default="1", help="where the random numbers begin (1)")
     line.add_argument("--measure", action="store_true", help="measure, and test nothing")
     line.add_argument("names", metavar="NAME", nargs="*", help="these tests alone, and no trials")
-    return line.parse_args()
 
 
-def main() -> int:
+def run(asked: argparse.Namespace) -> int:
     """Runs the tests and the trials, and answers the status."""
-    asked = words()
     if not asked.collect:
         command_lines.runs(TOP / "recline")  # which builds the program, if need be
     collect = asked.collect or f"{TOP}/recline collect"
@@ -63,7 +57,3 @@ def main() -> int:
     for name in ("runs", "kills", "ranks", "turns", "seed"):
         trial += [f"--{name}", str(getattr(asked, name))]
     return subprocess.run([*python, *trial], env=environment, check=False).returncode
-
-
-if __name__ == "__main__":
-    sys.exit(main())

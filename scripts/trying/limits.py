@@ -1,7 +1,6 @@
-#!/usr/bin/env python3
 """Runs the program up to its limits, and with devices that fail.
 
-    scripts/limits [PROGRAM]      PROGRAM is ./recline of this repository where none is given
+    scripts/trial limits [PROGRAM]    PROGRAM is ./recline of this repository where none is given
 
 How often a lone process may begin a round, recover and take a check: each of these rows is a script
 of one process that asks once more than the limit allows, every command but the last is done, and
@@ -11,17 +10,15 @@ read and an output that cannot be written, a directory and a full device. The la
 many rows are as they must be; the status is 0 where all are.
 """
 
-import pathlib
+import argparse
 import subprocess
-import sys
 from collections.abc import Callable
 from typing import Any
 
-sys.dont_write_bytecode = True  # leaves nothing beside the scripts
-
 import command_lines
+import workspace
 
-TOP = pathlib.Path(__file__).resolve().parent.parent
+TOP = workspace.ROOT
 ROWS = [
     # command, how often it is done, the reply to the last one, and the refusal after it
     ("begin,0,", 65535, "begun,0,65535,65535", "refused,23,NoMoreRounds"),
@@ -169,9 +166,14 @@ def is_blamed(program: str, source: str, sink: str, said: str) -> bool:
     return (ran.stderr.decode(), ran.returncode) == (f"recline: {said}\n", 3)
 
 
-def main() -> int:
+def add_words(words: argparse.ArgumentParser) -> None:
+    """Adds the words of this job to those that are read."""
+    command_lines.add_program(words)
+
+
+def run(asked: argparse.Namespace) -> int:
     """Runs each row, and answers the status."""
-    program = command_lines.program(__doc__) or str(TOP / "recline")
+    program = asked.program or str(TOP / "recline")
     rows: list[tuple[str, Callable[..., bool], tuple[Any, ...]]] = []
     rows += [(f"limit of {row[0]}", is_refused, row) for row in ROWS]
     rows += [(row[0], is_told, row[1:]) for row in TEXTS]
@@ -183,7 +185,3 @@ def main() -> int:
             failed += 1
     print(f"{len(rows) - failed} limits as they must be, {failed} not")
     return 1 if failed else 0
-
-
-if __name__ == "__main__":
-    sys.exit(main())

@@ -1,7 +1,6 @@
-#!/usr/bin/env python3
 """Compares the verdicts of examples/judge/judge.py with those of the program.
 
-    scripts/test_judge [--cases N] [--seed S] [--program PATH]
+    scripts/trial judge [--cases N] [--seed S] [--program PATH]
 
 The cases are check texts with whole answers, 20 of each history: some are right, and in the others
 something is changed (scripts/slow_model). Texts that the program does not read are left to it. It
@@ -10,18 +9,19 @@ A text that differs is printed; the last line says how many were compared, and t
 none differs.
 """
 
+import argparse
 import pathlib
 import random
 import subprocess
 import sys
 from collections.abc import Iterator
 
-sys.dont_write_bytecode = True  # leaves nothing beside the scripts
+import command_lines
+import workspace
 
-TOP = pathlib.Path(__file__).resolve().parent.parent
+TOP = workspace.ROOT
 sys.path.insert(0, str(TOP / "examples" / "judge"))
 
-import command_lines
 import judge
 from slow_model.made_claims import some_answer_texts
 
@@ -52,15 +52,17 @@ def whole_prefixes(program: pathlib.Path, text: bytes) -> Iterator[bytes]:
             yield text[:end]
 
 
-def main() -> int:
-    """Compares, and answers the status."""
-    line = command_lines.parser(__doc__)
+def add_words(line: argparse.ArgumentParser) -> None:
+    """Adds the words of this job to those that are read."""
     line.add_argument("--cases", type=int, default=2000, help="how many cases (2000)")
     line.add_argument("--seed", type=int, default=1, help="where the generator starts (1)")
     line.add_argument(
         "--program", type=pathlib.Path, help="the program (the built one, which ./recline builds)"
     )
-    asked = line.parse_args()
+
+
+def run(asked: argparse.Namespace) -> int:
+    """Compares, and answers the status."""
     if not command_lines.runs(asked.program or TOP / "recline"):
         print("the program does not run")
         return 1
@@ -82,7 +84,3 @@ def main() -> int:
         print(f"{len(whole)} prefixes of {EXAMPLE.name} are read, in place of the text alone")
     print(f"{compared} answers: {different or 'none'} judged otherwise than by the program")
     return 1 if different else 0
-
-
-if __name__ == "__main__":
-    sys.exit(main())

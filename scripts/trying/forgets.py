@@ -1,9 +1,8 @@
-#!/usr/bin/env python3
 """Compares what a machine answers that lets go with what it answers where it keeps everything.
 
-    scripts/try_forgets [--cases N] [--seed S] [--program PATH]
+    scripts/trial forgets [--cases N] [--seed S] [--program PATH]
 
-Each case is a random script with some `forget`, from the generator of scripts/random_scripts, and
+Each case is a random script with some `forget`, from the generator of scripts/trial scripts, and
 the same script without. Every reply has to be the same, to the byte, but for these: a `damage` up
 to the floor is refused as that of an initial state, and a `bar` before it as one at no check;
 `rounds` lists the rounds of which no check is before the floor; and a history is what is kept of
@@ -18,11 +17,8 @@ import argparse
 import collections
 import random
 import subprocess
-import sys
 import tempfile
 from collections.abc import Iterator, Sequence
-
-sys.dont_write_bytecode = True  # leaves nothing beside the scripts
 
 import command_lines
 from pictures.texts import Reply, read_replies
@@ -253,19 +249,16 @@ def keep(case: int, processes: int, records: Sequence[str], why: Different) -> N
     print(f"case {case} differs; the script is in {kept.name}: {why}")
 
 
-def words() -> argparse.Namespace:
-    """The words of the command line."""
-    line = command_lines.parser(__doc__)
+def add_words(line: argparse.ArgumentParser) -> None:
+    """Adds the words of this job to those that are read."""
     line.add_argument("--cases", type=int, default=200, help="how many cases (200)")
     line.add_argument("--seed", type=int, default=1, help="where the generator starts (1)")
     line.add_argument("--program", help="the program, in place of the slow model")
     line.add_argument("--counts", action="store_true", help="print how often each kind came")
-    return line.parse_args()
 
 
-def main() -> int:
+def run(asked: argparse.Namespace) -> int:
     """Tries the cases, and answers the status."""
-    asked = words()
     # The first call may have to build the program, which takes long and says so.
     if asked.program and not command_lines.runs(asked.program):
         print(f"{asked.program} does not run")
@@ -285,7 +278,3 @@ def main() -> int:
             print(f"{times:8} {kind}")
     print(f"{asked.cases} cases: what lets go answers as what keeps everything")
     return 0
-
-
-if __name__ == "__main__":
-    sys.exit(main())

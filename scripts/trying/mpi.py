@@ -1,8 +1,7 @@
-#!/usr/bin/env python3
 """Tries the library for MPI, and kills ranks of examples/mpi/heat.c at random.
 
-Usage: scripts/test_mpi [--runs N] [--seed S] [--from I] [--quick]
-                        [--planner COMMAND] [--program PATH]
+Usage: scripts/trial mpi [--runs N] [--seed S] [--from I] [--quick]
+                         [--planner COMMAND] [--program PATH]
 
 Each call that the library wraps is made with it and without it; each message that is noted as
 sent must be noted as received, once; and what is in transit at a recovery line must come again,
@@ -30,11 +29,10 @@ import tempfile
 import time
 from collections.abc import Sequence
 
-sys.dont_write_bytecode = True  # leaves nothing beside the scripts
-
 import command_lines
+import workspace
 
-TOP = pathlib.Path(__file__).resolve().parent.parent
+TOP = workspace.ROOT
 CLIENT = TOP / "clients" / "mpi"
 sys.path.insert(0, str(CLIENT))
 
@@ -258,9 +256,8 @@ def drawn(seed: int, number: int) -> list[str]:
     ]
 
 
-def words() -> argparse.Namespace:
-    """What the words of the command line ask for."""
-    line = command_lines.parser(__doc__)
+def add_words(line: argparse.ArgumentParser) -> None:
+    """Adds the words of this job to those that are read."""
     line.add_argument("--runs", type=int, default=100, help="how many runs (100)")
     line.add_argument("--seed", type=int, help="where they are drawn from (the time)")
     line.add_argument("--from", type=int, default=0, dest="first", help="the first run (0)")
@@ -269,12 +266,6 @@ def words() -> argparse.Namespace:
                       metavar="COMMAND", help="what plans (recline collect)")
     line.add_argument("--program", default=str(PROGRAM), metavar="PATH",
                       help="what ./draw and ./explain run (./recline)")
-    asked: argparse.Namespace = line.parse_args()
-    if asked.quick:
-        asked.runs, asked.seed = QUICK_RUNS, QUICK_SEED
-    if asked.seed is None:
-        asked.seed = int(time.time())
-    return asked
 
 
 def try_all(trial: Trial, asked: argparse.Namespace) -> bool:
@@ -285,17 +276,20 @@ def try_all(trial: Trial, asked: argparse.Namespace) -> bool:
             trial.run(asked.seed, number)
         except Failure as failure:
             print(f"run {number} of seed {asked.seed}: {failure}")
-            print(f"again: scripts/test_mpi --seed {asked.seed} --from {number} --runs 1")
+            print(f"again: scripts/trial mpi --seed {asked.seed} --from {number} --runs 1")
             return False
         if time.monotonic() >= next_word:
             next_word = time.monotonic() + SECONDS_OF_SILENCE
-            print(f"test_mpi: {trial.counts['runs']} runs", file=sys.stderr)
+            print(f"trial mpi: {trial.counts['runs']} runs", file=sys.stderr)
     return True
 
 
-def main() -> int:
+def run(asked: argparse.Namespace) -> int:
     """Does all of it; answers the status."""
-    asked = words()
+    if asked.quick:
+        asked.runs, asked.seed = QUICK_RUNS, QUICK_SEED
+    if asked.seed is None:
+        asked.seed = int(time.time())
     try:
         ran([sys.executable, str(CLIENT / "tests" / "test_folder.py")])
     except Failure as failure:
@@ -303,7 +297,7 @@ def main() -> int:
         return 1
     missing = [name for name in ("mpicc", "mpirun", "make") if not shutil.which(name)]
     if missing:
-        print(f"test_mpi: left out: there is no {' and no '.join(missing)} (Debian has them in "
+        print(f"trial mpi: left out: there is no {' and no '.join(missing)} (Debian has them in "
               "openmpi-bin, libopenmpi-dev and make)")
         return LEFT_OUT
     # The first call may have to build the program, which takes long and says so.
@@ -327,7 +321,3 @@ def main() -> int:
         print(f"MPI: {counts['runs']:,} runs with {counts['failures']:,} failures have the bits of "
               f"a job without failures; {counts['messages']:,} messages, each noted once")
     return 0
-
-
-if __name__ == "__main__":
-    sys.exit(main())

@@ -1,7 +1,6 @@
-#!/usr/bin/env python3
 """Compares the program with a small, slow model of it on random scripts and check texts.
 
-Usage: scripts/random_scripts [--cases N] [--seed S] [--program PATH] [--keep-going] [--counts]
+Usage: scripts/trial scripts [--cases N] [--seed S] [--program PATH] [--keep-going] [--counts]
 
 Each case is a script for `recline run`, a check text for `recline check`, or records for `recline
 serve`, from a seeded generator: commands of all kinds in either mode, most of them sensible and
@@ -15,15 +14,12 @@ A case that differs is printed and kept in a file whose name is told; the status
 
 import argparse
 import collections
-import pathlib
 import random
 import subprocess
-import sys
 import tempfile
 
-sys.dont_write_bytecode = True  # leaves nothing beside the scripts
-
 import command_lines
+import workspace
 from slow_model import claims, scripts
 from slow_model.made_claims import some_check_text
 from slow_model.made_conversations import answers_to
@@ -31,7 +27,7 @@ from slow_model.made_saves import some_saved_script
 from slow_model.made_scripts import some_script
 from slow_model.service import Service
 
-TOP = pathlib.Path(__file__).resolve().parent.parent
+TOP = workspace.ROOT
 MOST_SECONDS = 60
 SAVED = 0.15  # so many of the cases save their machine, or begin with one that was saved
 # Standard output, standard error and the status; or, in place of the status, why there is none.
@@ -96,9 +92,8 @@ def tell_difference(
             print(f"{what}: the program has\n{one!r}\nand the model\n{other!r}")
 
 
-def words() -> argparse.Namespace:
-    """The words of the command line."""
-    line = command_lines.parser(__doc__)
+def add_words(line: argparse.ArgumentParser) -> None:
+    """Adds the words of this job to those that are read."""
     line.add_argument("--cases", type=int, default=300, help="how many cases (300)")
     line.add_argument("--seed", type=int, default=1, help="where the generator starts (1)")
     line.add_argument(
@@ -108,12 +103,10 @@ def words() -> argparse.Namespace:
     line.add_argument(
         "--counts", action="store_true", help="print how often each kind of answer came"
     )
-    return line.parse_args()
 
 
-def main() -> int:
+def run(asked: argparse.Namespace) -> int:
     """Tries the cases, and answers the status."""
-    asked = words()
     # The first call may have to build the program, which takes long and says so.
     if not command_lines.runs(asked.program):
         print(f"{asked.program} does not run")
@@ -137,7 +130,3 @@ def main() -> int:
         return 1
     print(f"{asked.cases} cases: the program and the model agree")
     return 0
-
-
-if __name__ == "__main__":
-    sys.exit(main())

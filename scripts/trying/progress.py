@@ -1,13 +1,13 @@
-#!/usr/bin/env python3
 """Tests of what ./recline says on a terminal while it works on a long text.
 
-    scripts/test_progress [PROGRAM]      PROGRAM is ./recline of this repository where none is given
+    scripts/trial progress [PROGRAM]    PROGRAM is ./recline of this repository where none is given
 
 Standard error is a pseudo terminal here. A made-up program that takes its time stands where a test
 is about the time; the others compare what the program writes and how it ends beside a terminal and
 beside none. The last line says how many tests passed; the status is 0 where all did.
 """
 
+import argparse
 import os
 import pathlib
 import pty
@@ -22,12 +22,11 @@ from collections.abc import Callable
 from dataclasses import dataclass
 from typing import Optional
 
-sys.dont_write_bytecode = True  # leaves nothing beside the scripts
-
 import command_lines
+import workspace
 
-TOP = pathlib.Path(__file__).resolve().parent.parent
-PROGRAM = command_lines.program(__doc__) or str(TOP / "recline")
+TOP = workspace.ROOT
+ASKED = argparse.Namespace(program=str(TOP / "recline"))
 TOOL = str(TOP / "scripts" / "show_progress")
 EVERY = 0.05
 RECORDS = 3001
@@ -245,8 +244,8 @@ class Progress(unittest.TestCase):
     def assert_same(self, job: str, text: str) -> None:
         """The program writes, says and ends the same with a terminal as without."""
         given = write(self.folder / "given", text)
-        plain = on_none([PROGRAM, job], given)
-        for line in ([PROGRAM, job], [TOOL, "--every", "0.001", self.built(), job]):
+        plain = on_none([ASKED.program, job], given)
+        for line in ([ASKED.program, job], [TOOL, "--every", "0.001", self.built(), job]):
             shown = on_terminal(line, given, self.out)
             self.assertEqual(shown.out, plain.out)
             self.assertEqual(shown.status, plain.status)
@@ -255,8 +254,8 @@ class Progress(unittest.TestCase):
     @staticmethod
     def built() -> str:
         """The built program, which ./recline runs."""
-        if PROGRAM != str(TOP / "recline"):
-            return PROGRAM
+        if ASKED.program != str(TOP / "recline"):
+            return str(ASKED.program)
         return str(TOP / "crates" / "line_cli" / "out" / "line_cli")
 
     def test_outputs_stay(self) -> None:
@@ -271,7 +270,7 @@ class Progress(unittest.TestCase):
 
     def test_a_full_device(self) -> None:
         text = write(self.folder / "long", script(10_000))
-        ended = on_terminal([PROGRAM, "run"], text, pathlib.Path("/dev/full"))
+        ended = on_terminal([ASKED.program, "run"], text, pathlib.Path("/dev/full"))
         self.assertEqual(ended.status, 3)
         self.assertIn("37 WriteFault", ended.seen)
 
@@ -284,23 +283,25 @@ class Progress(unittest.TestCase):
         path = {**os.environ, "PATH": f"{self.folder}:{os.environ['PATH']}"}
         with open(self.text, "rb") as source:
             subprocess.run(
-                [PROGRAM, "run"], stdin=source, capture_output=True, check=True, env=path)
+                [ASKED.program, "run"], stdin=source, capture_output=True, check=True, env=path)
         self.assertFalse(mark.exists())
-        on_terminal([PROGRAM, "run"], self.text, None, environment=path)
+        on_terminal([ASKED.program, "run"], self.text, None, environment=path)
         self.assertFalse(mark.exists())
-        on_terminal([PROGRAM, "run"], self.text, self.out, environment=path)
-        self.assertEqual(mark.exists(), PROGRAM == str(TOP / "recline"))
+        on_terminal([ASKED.program, "run"], self.text, self.out, environment=path)
+        self.assertEqual(mark.exists(), ASKED.program == str(TOP / "recline"))
 
 
-def main() -> int:
+def add_words(words: argparse.ArgumentParser) -> None:
+    """Adds the words of this job to those that are read."""
+    command_lines.add_program(words)
+
+
+def run(asked: argparse.Namespace) -> int:
     """Runs the tests, and answers the status."""
-    command_lines.runs(PROGRAM)
+    ASKED.program = asked.program or ASKED.program
+    command_lines.runs(ASKED.program)
     suite = unittest.defaultTestLoader.loadTestsFromTestCase(Progress)
     done = unittest.TextTestRunner(stream=sys.stderr, verbosity=0).run(suite)
     failed = len({case.id().split(" ")[0] for case, _ in [*done.failures, *done.errors]})
     print(f"tests of progress: {done.testsRun - failed} of {done.testsRun} passed")
     return 0 if done.wasSuccessful() else 1
-
-
-if __name__ == "__main__":
-    sys.exit(main())

@@ -1,7 +1,6 @@
-#!/usr/bin/env python3
 """Refuses the program each of its requests for memory, one in a run.
 
-    scripts/refuse_growths [PROGRAM] [--every K] [--cases M] [--seed S] [--collect WORDS]
+    scripts/trial memory [PROGRAM] [--every K] [--cases M] [--seed S] [--collect WORDS]
 
 PROGRAM is the built program of this repository where none is given. A text is run once to count
 its requests for memory (malloc, calloc, realloc, aligned_alloc, posix_memalign), and then once
@@ -29,14 +28,10 @@ import os
 import random
 import re
 import shlex
-import sys
 import tempfile
 from collections.abc import Callable
 from concurrent.futures import ThreadPoolExecutor
 
-sys.dont_write_bytecode = True  # leaves nothing beside the scripts
-
-import command_lines
 import preloaded
 import refused_service
 from conversations import Difference
@@ -164,20 +159,17 @@ def kind_of(run: tuple[Trial, int]) -> str:
     return trial.kind(growth)
 
 
-def words() -> argparse.Namespace:
-    """The words of the command line."""
-    line = command_lines.parser(__doc__)
+def add_words(line: argparse.ArgumentParser) -> None:
+    """Adds the words of this job to those that are read."""
     line.add_argument("program", nargs="?", help="the program")
     line.add_argument("--every", type=int, default=1, metavar="K", help="one request of K (1)")
     line.add_argument("--cases", type=int, default=40, metavar="M", help="how many made texts (40)")
     line.add_argument("--seed", type=int, default=1, metavar="S", help="where made texts start (1)")
     line.add_argument("--collect", metavar="WORDS", help="what collects (PROGRAM collect)")
-    return line.parse_args()
 
 
-def main() -> int:
+def run(asked: argparse.Namespace) -> int:
     """Runs all texts, and answers the status."""
-    asked = words()
     program = asked.program or preloaded.built_program()
     collect = shlex.split(asked.collect) if asked.collect else [program, "collect"]
     texts = tried_examples(asked.every) + made_texts(asked.cases, asked.seed)
@@ -198,7 +190,3 @@ def main() -> int:
         f" {wrong} not as they must be"
     )
     return 1 if wrong else 0
-
-
-if __name__ == "__main__":
-    sys.exit(main())

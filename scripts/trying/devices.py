@@ -1,7 +1,6 @@
-#!/usr/bin/env python3
 """Runs the program over devices that fail, are interrupted, give little, or are not there.
 
-    scripts/hostile_devices [PROGRAM] [--collect WORDS] [--collect-alone]
+    scripts/trial devices [PROGRAM] [--collect WORDS] [--collect-alone]
 
 PROGRAM is the built program of this repository where none is given; --collect is another command
 that collects, in words of a shell, and with --collect-alone nothing else is tried. Each read of
@@ -26,15 +25,11 @@ import resource
 import shlex
 import signal
 import subprocess
-import sys
 import tempfile
 from collections.abc import Callable, Iterator
 from concurrent.futures import ThreadPoolExecutor
 from typing import NamedTuple
 
-sys.dont_write_bytecode = True  # leaves nothing beside the scripts
-
-import command_lines
 import preloaded
 import refused_service
 from conversations import Difference
@@ -308,18 +303,15 @@ def is_as_asked(case: Case) -> bool:
     return case.is_right(answer)
 
 
-def words() -> argparse.Namespace:
-    """The words of the command line."""
-    line = command_lines.parser(__doc__)
+def add_words(line: argparse.ArgumentParser) -> None:
+    """Adds the words of this job to those that are read."""
     line.add_argument("program", nargs="?", metavar="PROGRAM", help="the program that is run")
     line.add_argument("--collect", metavar="WORDS", help="what collects (PROGRAM collect)")
     line.add_argument("--collect-alone", action="store_true", help="try nothing else")
-    return line.parse_args()
 
 
-def main() -> int:
+def run(asked: argparse.Namespace) -> int:
     """Runs all cases, and answers the status."""
-    asked = words()
     program = asked.program or ("" if asked.collect_alone else preloaded.built_program())
     collect = shlex.split(asked.collect) if asked.collect else [program, "collect"]
     with (
@@ -336,7 +328,3 @@ def main() -> int:
         wrong = list(pool.map(is_as_asked, cases)).count(False)
     print(f"hostile devices: {len(cases) - wrong} of {len(cases)} runs as they must be")
     return 1 if wrong else 0
-
-
-if __name__ == "__main__":
-    sys.exit(main())

@@ -1,7 +1,6 @@
-#!/usr/bin/env python3
 """Runs the program on long texts that are made to hurt, and tells what time and memory they take.
 
-    scripts/hostile_texts [PROGRAM] [--size BYTES] [--only NAME,..] [--runs K] [--list]
+    scripts/trial long_texts [PROGRAM] [--size BYTES] [--only NAME,..] [--runs K] [--list]
 
 PROGRAM is the built program of this repository where none is given. Each kind of text is made at
 a quarter, at half and at all of the size (67,108,864 bytes, the most that an input may have; less
@@ -21,14 +20,10 @@ import pathlib
 import re
 import resource
 import subprocess
-import sys
 import tempfile
 from collections.abc import Callable
 from typing import NamedTuple
 
-sys.dont_write_bytecode = True  # leaves nothing beside the scripts
-
-import command_lines
 import preloaded
 from slow_model.texts import earliest_version
 
@@ -326,20 +321,17 @@ def is_starved(program: str, name: str, size: int, folder: str) -> bool | None:
     return is_prefix and it.status == 3 and WANT_OF_MEMORY.fullmatch(it.told) is not None
 
 
-def words() -> argparse.Namespace:
-    """The words of the command line."""
-    line = command_lines.parser(__doc__)
+def add_words(line: argparse.ArgumentParser) -> None:
+    """Adds the words of this job to those that are read."""
     line.add_argument("program", nargs="?", help="the program")
     line.add_argument("--size", type=int, default=MOST_INPUT, metavar="BYTES", help="the full size")
     line.add_argument("--only", default=",".join(KINDS), metavar="NAME,..", help="these alone")
     line.add_argument("--runs", type=int, default=1, metavar="K", help="how often each runs (1)")
     line.add_argument("--list", action="store_true", help="print the kinds, and run nothing")
-    return line.parse_args()
 
 
-def main() -> int:
+def run(asked: argparse.Namespace) -> int:
     """Runs the kinds that are asked for, and answers the status."""
-    asked = words()
     if asked.list:
         print("\n".join(KINDS))
         return 0
@@ -358,7 +350,3 @@ def main() -> int:
         right += [it for it in starved if it is not None]
     print(f"hostile texts: {right.count(True)} of {len(right)} answered as they must be")
     return 0 if all(right) else 1
-
-
-if __name__ == "__main__":
-    sys.exit(main())

@@ -1,21 +1,18 @@
-#!/usr/bin/env python3
 """Tests of the scripts that read Rattle: definitions, contracts, edits, refusals and long lines.
 
-    scripts/test_readers
+    scripts/trial readers
 
 Each reads a short text that stands here, and the whole tree once. The last line says how many tests
 passed; the status is 0 where all did.
 """
 
+import argparse
 import pathlib
 import re
 import sys
 import tempfile
 import unittest
 
-sys.dont_write_bytecode = True  # leaves nothing beside the scripts
-
-import command_lines
 import definitions
 import homonyms
 import readmes
@@ -280,15 +277,14 @@ class Limits(unittest.TestCase):
         self.assertIn("const ROOM: usize = 65_536;", writers.read_text(encoding="utf-8"))
 
 
-def main() -> int:
+def add_words(_words: argparse.ArgumentParser) -> None:
+    """Adds no words: this job takes none."""
+
+
+def run(_asked: argparse.Namespace) -> int:
     """Runs all tests, and answers the status."""
-    command_lines.parser(__doc__).parse_args()
-    found = unittest.defaultTestLoader.loadTestsFromModule(sys.modules["__main__"])
+    found = unittest.defaultTestLoader.loadTestsFromModule(sys.modules[__name__])
     done = unittest.TextTestRunner(stream=sys.stderr, verbosity=0).run(found)
     failed = len(done.failures) + len(done.errors)
     print(f"tests of readers: {done.testsRun - failed} of {done.testsRun} passed")
     return 0 if done.wasSuccessful() else 1
-
-
-if __name__ == "__main__":
-    sys.exit(main())

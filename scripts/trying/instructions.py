@@ -1,7 +1,6 @@
-#!/usr/bin/env python3
 """Counts what the built program takes for a record, and compares with a table.
 
-    scripts/compare_instructions [--program PATH] [--write] [--keep DIR]
+    scripts/trial instructions [--program PATH] [--write] [--keep DIR]
 
 The texts are the same in every run, each in two sizes:
 
@@ -23,17 +22,14 @@ the table anew. The tool is valgrind (cachegrind), or else perf, which counts in
 Where there is neither, or no row for it, that is said, and the status is 0: nothing was compared.
 """
 
+import argparse
 import os
 import pathlib
 import subprocess
-import sys
 import tempfile
 from concurrent.futures import ThreadPoolExecutor
 from typing import NamedTuple
 
-sys.dont_write_bytecode = True  # leaves nothing beside the scripts
-
-import command_lines
 import instructions
 import made_inputs
 import preloaded
@@ -59,7 +55,7 @@ MEASURES = [
 ]
 FIRST_LINES = """\
 # What the built program takes for a record, by tool and text: instructions, data that the first
-# level of caches misses, and data that the last one does. scripts/compare_instructions compares
+# level of caches misses, and data that the last one does. scripts/trial instructions compares
 # with these, and --write writes them.
 """
 # By tool and text each measure, for a record.
@@ -183,13 +179,15 @@ def measured_in(folder: pathlib.Path | None, program: str, tool: instructions.To
         return measured(program, tool, pathlib.Path(made))
 
 
-def main() -> int:
-    """Measures, writes or compares, and answers the status."""
-    words = command_lines.parser(__doc__)
+def add_words(words: argparse.ArgumentParser) -> None:
+    """Adds the words of this job to those that are read."""
     words.add_argument("--program", type=pathlib.Path, help="the program, as ./recline builds it")
     words.add_argument("--write", action="store_true", help="writes the table")
     words.add_argument("--keep", type=pathlib.Path, help="a folder to keep the texts in")
-    asked = words.parse_args()
+
+
+def run(asked: argparse.Namespace) -> int:
+    """Measures, writes or compares, and answers the status."""
     tool = instructions.tool_at_hand()
     if tool is None:
         print("instructions: neither valgrind nor perf counts here, so nothing is compared")
@@ -202,7 +200,3 @@ def main() -> int:
         write_table(now | {key: counts for key, counts in table.items() if key not in now})
         return 0
     return 1 if failures else 0
-
-
-if __name__ == "__main__":
-    sys.exit(main())

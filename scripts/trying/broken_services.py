@@ -1,8 +1,7 @@
-#!/usr/bin/env python3
-"""Breaks the slow service in one way after the other, and asks that `hostile_service` finds each.
+"""Breaks the slow service in one way after the other, and asks that `trial service` finds each.
 
-    scripts/try_broken_services [--job serve|collect] [--only NAME,..] [--seconds N] [--list]
-    scripts/try_broken_services [--job serve|collect] --serve NAME < RECORDS
+    scripts/trial broken_services [--job serve|collect] [--only NAME,..] [--seconds N] [--list]
+    scripts/trial broken_services [--job serve|collect] --serve NAME < RECORDS
 
 Each broken service (scripts/slow_model/broken_services.py, and LOOPS below) is tried with long
 inputs of 2 MB, and with cases for N seconds (10); with --job collect it is one that collects. Those
@@ -15,7 +14,6 @@ import argparse
 import contextlib
 import inspect
 import os
-import pathlib
 import queue
 import random
 import signal
@@ -25,17 +23,15 @@ import threading
 import time
 from collections.abc import Iterator
 
-sys.dont_write_bytecode = True  # leaves nothing beside the scripts
-
-import command_lines
 import refused_service
+import workspace
 from conversations import Difference
 from service_jobs import JOBS, Job
 from slow_model import broken_services
 from slow_model.broken_services import Starved
 from slow_model.service import Service
 
-HERE = pathlib.Path(__file__).resolve()
+TRIAL = str(workspace.ROOT / "scripts" / "trial")
 PIECE = 65_536
 # Services whose loop is broken.
 LOOPS = ["reads_ahead", "is_silent_on_read_faults", "is_silent_on_write_faults"]
@@ -132,31 +128,28 @@ def is_starved_badly(command: list[str], seconds: float, job: Job) -> str:
 
 def found_out(name: str, seconds: float, job: Job) -> str:
     """What is found of a service; nothing where nothing is."""
-    command = [sys.executable, str(HERE), "--job", job.word, "--serve", name]
+    command = [sys.executable, TRIAL, "broken_services", "--job", job.word, "--serve", name]
     if name in NAMES and issubclass(SERVICES[name], Starved):
         return is_starved_badly(command, seconds, job)
     words = ["--seconds", f"{seconds}", "--size", f"{SIZE}", "--patience", "15", "--is-script"]
-    tried = [str(HERE.parent / "hostile_service"), "--job", job.word]
+    tried = [TRIAL, "service", "--job", job.word]
     tried += ["--program", " ".join(command), *words]
     ran = subprocess.run(tried, capture_output=True, text=True, check=False)
     told = ran.stdout.splitlines() or ["nothing is told"]
     return told[0] if ran.returncode else ""
 
 
-def words() -> argparse.Namespace:
-    """The words of the command line."""
-    line = command_lines.parser(__doc__)
+def add_words(line: argparse.ArgumentParser) -> None:
+    """Adds the words of this job to those that are read."""
     line.add_argument("--job", choices=JOBS, default="serve", help="what services do (serve)")
     line.add_argument("--only", metavar="NAME,..", help="these services alone")
     line.add_argument("--seconds", type=float, default=10, metavar="N", help="for each (10)")
     line.add_argument("--list", action="store_true", help="print the names, and try nothing")
     line.add_argument("--serve", metavar="NAME", help="serve as this service does")
-    return line.parse_args()
 
 
-def main() -> int:
+def run(asked: argparse.Namespace) -> int:
     """Tries the services, and answers the status."""
-    asked = words()
     if asked.serve:
         return serve(asked.serve, JOBS[asked.job])
     names = asked.only.split(",") if asked.only else ["slow", *NAMES, *LOOPS]
@@ -172,7 +165,3 @@ def main() -> int:
         print(f"{name}: {told}{'' if is_right else ' - NOT AS IT MUST BE'}", flush=True)
     print(f"broken services: {len(names) - wrong} of {len(names)} were judged rightly")
     return 1 if wrong else 0
-
-
-if __name__ == "__main__":
-    sys.exit(main())

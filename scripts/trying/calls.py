@@ -1,8 +1,7 @@
-#!/usr/bin/env python3
 """Refuses memory to calls of the library, one growth in a run, and compares what is there after it.
 
-    scripts/refuse_calls [--every K] [--cases M] [--seed S] [--at-once N]
-                         [--compile] [--program PATH] [--keep-program PATH]
+    scripts/trial calls [--every K] [--cases M] [--seed S] [--at-once N]
+                        [--compile] [--program PATH] [--keep-program PATH]
 
 The program bench/refused, which is proved and built first, makes the calls of a row one by one: on
 histories and their marks, on what a process records of rounds, on catalogues, the planner and what
@@ -50,10 +49,7 @@ from collections.abc import Iterator
 from concurrent.futures import ThreadPoolExecutor
 from typing import NamedTuple
 
-sys.dont_write_bytecode = True  # leaves nothing beside the scripts
-
 import building
-import command_lines
 import preloaded
 import trials
 import workspace
@@ -220,9 +216,8 @@ def trials_of(program: str, library: str, rows: list[Row]) -> Iterator[Trial]:
         yield it
 
 
-def words() -> argparse.Namespace:
-    """The words of the command line."""
-    line = command_lines.parser(__doc__)
+def add_words(line: argparse.ArgumentParser) -> None:
+    """Adds the words of this job to those that are read."""
     add, path = line.add_argument, pathlib.Path
     add("--every", type=int, default=1, metavar="K", help="one growth of K (1)")
     add("--cases", type=int, default=12, metavar="M", help="how many made rows of each kind (12)")
@@ -232,7 +227,6 @@ def words() -> argparse.Namespace:
     add("--compile", action="store_true", help="by a build that is not proved")
     add("--program", type=path, help="a program bench/refused that is built already, in this way")
     add("--keep-program", type=path, help="where the built program is put, too")
-    return line.parse_args()
 
 
 def try_rows(program: str, asked: argparse.Namespace) -> int:
@@ -306,9 +300,8 @@ def built_in(room: pathlib.Path, is_compiled: bool) -> pathlib.Path:
     return building.build_bench(room, "refused", STANDS_ON, IDLE)
 
 
-def main() -> int:
+def run(asked: argparse.Namespace) -> int:
     """Does what the words ask for, and answers the status."""
-    asked = words()
     signal.signal(signal.SIGTERM, trials.stopped)
     if asked.program:
         return try_rows(str(asked.program.resolve()), asked)
@@ -318,7 +311,3 @@ def main() -> int:
             asked.keep_program.write_bytes(program.read_bytes())
             asked.keep_program.chmod(0o755)
         return try_rows(str(program), asked)
-
-
-if __name__ == "__main__":
-    sys.exit(main())

@@ -1,7 +1,6 @@
-#!/usr/bin/env python3
 """Runs drills, and compares what they write with what follows from workers and rounds alone.
 
-Usage: scripts/try_drills [--program PATH] [--drill N,K ..] [--times N] [--measure]
+Usage: scripts/trial drills [--program PATH] [--drill N,K ..] [--times N] [--measure]
 
 PROGRAM is ./recline of this repository where none is given. The text is worked out here, from
 docs/FORMATS.md: in each round a worker sends its number to the next one, receives the message of
@@ -14,20 +13,17 @@ With --measure a table of times and greatest memory comes before it: the least, 
 greatest of the times, and the greatest memory of any of the runs.
 """
 
+import argparse
 import os
-import pathlib
 import statistics
 import subprocess
-import sys
 import tempfile
 import time
 from typing import NamedTuple
 
-sys.dont_write_bytecode = True  # leaves nothing beside the scripts
+import workspace
 
-import command_lines
-
-TOP = pathlib.Path(__file__).resolve().parent.parent
+TOP = workspace.ROOT
 DRILLS = [
     *[(2, 1), (3, 1), (2, 1000), (3, 7), (4, 1000)],
     *[(8, 100), (33, 5), (63, 2), (64, 1), (64, 1000)],
@@ -86,16 +82,18 @@ def row(workers: int, rounds: int, runs: list[Run]) -> str:
     return f"| {workers} | {rounds:,} | {3 * workers * rounds:,} | {times} | {memory:.0f} MB |"
 
 
-def main() -> int:
-    """Runs each drill, and answers the status."""
-    words = command_lines.parser(__doc__)
+def add_words(words: argparse.ArgumentParser) -> None:
+    """Adds the words of this job to those that are read."""
     add = words.add_argument
     add("--program", default=str(TOP / "recline"), help="the program (./recline)")
     add("--drill", type=pair, nargs="+", metavar="N,K", default=DRILLS,
         help="N workers and K rounds (a table of them)")
     add("--times", type=int, default=1, metavar="N", help="how often each is run (1)")
     add("--measure", action="store_true", help="a table of times and memory first")
-    asked = words.parse_args()
+
+
+def run(asked: argparse.Namespace) -> int:
+    """Runs each drill, and answers the status."""
     right = wrong = 0
     if asked.measure:
         print("| workers | rounds | events | least / median / greatest time | greatest memory |")
@@ -112,7 +110,3 @@ def main() -> int:
             print(row(workers, rounds, runs), flush=True)
     print(f"{right} drills as they must be, {wrong} not")
     return 1 if wrong else 0
-
-
-if __name__ == "__main__":
-    sys.exit(main())

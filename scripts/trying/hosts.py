@@ -1,7 +1,6 @@
-#!/usr/bin/env python3
 """Tries reporters and a hub on two hosts, whose link loses packets and is cut for ten seconds.
 
-    scripts/trial_hosts [--collect COMMAND] [--runs N] [--kills N] [--ranks N] [--turns N]
+    scripts/trial hosts [--collect COMMAND] [--runs N] [--kills N] [--ranks N] [--turns N]
                         [--seed S] [--seconds N]
 
 The hosts are two network namespaces of this machine with a link between them. The hub and every
@@ -19,18 +18,16 @@ that all is left out, and the status is 77. ./test does not run this.
 
 import argparse
 import os
-import pathlib
 import secrets
 import subprocess
 import sys
 import time
 from collections.abc import Callable
 
-sys.dont_write_bytecode = True  # leaves nothing beside the scripts
-
 import command_lines
+import workspace
 
-TOP = pathlib.Path(__file__).resolve().parent.parent
+TOP = workspace.ROOT
 TESTS = TOP / "clients" / "python" / "hub_tests"
 sys.path.insert(0, str(TESTS))
 
@@ -114,9 +111,8 @@ def opener(path: str, flags: int) -> int:
     return os.open(path, flags, 0o600)
 
 
-def words() -> argparse.Namespace:
-    """What is asked for."""
-    line = command_lines.parser(__doc__)
+def add_words(line: argparse.ArgumentParser) -> None:
+    """Adds the words of this job to those that are read."""
     line.add_argument("--collect", default="", help="the service (recline collect)")
     line.add_argument("--runs", type=int, default=3, help="how many trials (3)")
     line.add_argument("--kills", type=int, default=4, help="how often something is done (4)")
@@ -124,7 +120,6 @@ def words() -> argparse.Namespace:
     line.add_argument("--turns", type=int, default=200, help="for how many turns (200)")
     line.add_argument("--seed", default="1", help="where the random numbers begin (1)")
     line.add_argument("--seconds", type=float, default=10, help="how long the link is cut (10)")
-    return line.parse_args()
 
 
 def joined(near: str, far: str) -> bool:
@@ -153,29 +148,24 @@ def lossy(*hosts: str) -> bool:
     )
 
 
-def main() -> int:
+def run(asked: argparse.Namespace) -> int:
     """Makes the hosts, runs the trials on them, and answers the status."""
-    asked = words()
     if FAR_HOST in os.environ:
         return run_all(asked, Hosts)
     near, far = (f"recline-{os.getpid()}-{name}" for name in ("near", "far"))
     try:
         if not joined(near, far):
-            print("trial_hosts: left out: network namespaces want root, and `ip` of iproute2")
+            print("trial hosts: left out: network namespaces want root, and `ip` of iproute2")
             return LEFT_OUT
         if not lossy(near, far):
-            print("trial_hosts: there is neither netem nor nft, so the link loses no packets")
+            print("trial hosts: there is neither netem nor nft, so the link loses no packets")
         if not asked.collect:
             command_lines.runs(TOP / "recline")  # which builds the program, if need be
         collect = asked.collect or f"{TOP}/recline collect"
-        again = ["ip", "netns", "exec", near, sys.executable, __file__, *sys.argv[1:]]
+        again = ["ip", "netns", "exec", near, sys.executable, *sys.argv]
         again += ["--collect", collect]
         environment = {**os.environ, FAR_HOST: far}
         return subprocess.run(again, env=environment, check=False).returncode
     finally:
         for host in (near, far):
             done("ip", "netns", "del", host)
-
-
-if __name__ == "__main__":
-    sys.exit(main())

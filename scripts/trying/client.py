@@ -1,7 +1,6 @@
-#!/usr/bin/env python3
 """Tests the client in Python, and what makes scripts of logs.
 
-Usage: scripts/test_client [--service COMMAND] [--kills N] [--seed S] [--long] [NAME..]
+Usage: scripts/trial client [--service COMMAND] [--kills N] [--seed S] [--long] [NAME..]
 
 The tests of clients/python/tests are run: each call and each answer of the client, its journal,
 clients and services that are killed at random, and the scripts that from_logs.py makes. They talk
@@ -12,33 +11,27 @@ such as `test_journal` or `test_kills.TestKills`.
 
 import argparse
 import os
-import pathlib
-import subprocess
 import sys
 import unittest
 
-sys.dont_write_bytecode = True  # leaves nothing beside the scripts
-
 import command_lines
+import workspace
 
-TOP = pathlib.Path(__file__).resolve().parent.parent
+TOP = workspace.ROOT
 TESTS = TOP / "clients" / "python" / "tests"
 
 
-def words() -> argparse.Namespace:
-    """What is asked for."""
-    line = command_lines.parser(__doc__)
+def add_words(line: argparse.ArgumentParser) -> None:
+    """Adds the words of this job to those that are read."""
     line.add_argument("--service", default="", help="the service, where it is not ./recline serve")
     line.add_argument("--kills", type=int, default=10, help="how often something is killed (10)")
     line.add_argument("--seed", default="1", help="where the random numbers begin (1)")
     line.add_argument("--long", action="store_true", help="test more")
     line.add_argument("names", metavar="NAME", nargs="*", help="these tests alone")
-    return line.parse_args()
 
 
-def main() -> int:
+def run(asked: argparse.Namespace) -> int:
     """Runs the tests, and answers the status."""
-    asked = words()
     if not asked.service:
         # The first call may have to build the program, which takes long and says so.
         command_lines.runs(TOP / "recline")
@@ -53,7 +46,3 @@ def main() -> int:
     else:
         tests = loader.discover(str(TESTS))
     return 0 if unittest.TextTestRunner(buffer=False).run(tests).wasSuccessful() else 1
-
-
-if __name__ == "__main__":
-    sys.exit(main())

@@ -1,7 +1,6 @@
-#!/usr/bin/env python3
 """Runs the short texts of examples/short_texts.txt through the program.
 
-    scripts/short_texts [PROGRAM]      PROGRAM is ./recline of this repository where none is given
+    scripts/trial short_texts [PROGRAM]    PROGRAM is ./recline where none is given
 
 Each line of that file is a command, a text, and what comes of it: what standard output gets, or the
 fault that standard error tells, with nothing on standard output. The status follows: 2 for a fault,
@@ -9,17 +8,15 @@ fault that standard error tells, with nothing on standard output. The status fol
 as they must be; the status is 0 where all are.
 """
 
-import pathlib
+import argparse
 import subprocess
-import sys
 from collections.abc import Iterator
 from typing import NamedTuple
 
-sys.dont_write_bytecode = True  # leaves nothing beside the scripts
-
 import command_lines
+import workspace
 
-TOP = pathlib.Path(__file__).resolve().parent.parent
+TOP = workspace.ROOT
 TABLE = TOP / "examples" / "short_texts.txt"
 
 
@@ -71,9 +68,14 @@ def answer(program: str, row: Row) -> Answer:
     return Answer(ran.stdout, ran.stderr, ran.returncode)
 
 
-def main() -> int:
+def add_words(words: argparse.ArgumentParser) -> None:
+    """Adds the words of this job to those that are read."""
+    command_lines.add_program(words)
+
+
+def run(asked: argparse.Namespace) -> int:
     """Runs all lines, and answers the status."""
-    program = command_lines.program(__doc__) or str(TOP / "recline")
+    program = asked.program or str(TOP / "recline")
     every, wrong = list(rows()), 0
     for row in every:
         got = answer(program, row)
@@ -85,7 +87,3 @@ def main() -> int:
             )
     print(f"short texts: {len(every) - wrong} of {len(every)} answered as they must be")
     return 1 if wrong else 0
-
-
-if __name__ == "__main__":
-    sys.exit(main())

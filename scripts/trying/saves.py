@@ -1,7 +1,6 @@
-#!/usr/bin/env python3
 """Compares a machine that goes on with the one that begins with its saved text.
 
-    scripts/try_saves [--cases N] [--seed S] [--program PATH] [--counts]
+    scripts/trial saves [--cases N] [--seed S] [--program PATH] [--counts]
 
 Each case is a random script of rounds, recoveries, damage, bars, `forget` and `save`. At some place
 where no round is open `save` is put in. A service then begins with the saved text in place of a
@@ -22,15 +21,14 @@ import sys
 import tempfile
 from collections.abc import Sequence
 
-sys.dont_write_bytecode = True  # leaves nothing beside the scripts
-
 import command_lines
+import workspace
 from slow_model import scripts, service
 from slow_model.made_saves import Saving, lines_of, saving_player
 
 MOST_SECONDS = 60
 LENGTHS = [10, 40, 120, 240]
-SLOW = pathlib.Path(__file__).resolve().parent / "slow_serve"
+SLOW = workspace.ROOT / "scripts" / "slow_serve"
 SAVE = "save\n"
 
 
@@ -129,19 +127,16 @@ def compare(tried: Tried, chance: random.Random, is_read: bool) -> list[str]:
     return counted
 
 
-def words() -> argparse.Namespace:
-    """The words of the command line."""
-    line = command_lines.parser(__doc__)
+def add_words(line: argparse.ArgumentParser) -> None:
+    """Adds the words of this job to those that are read."""
     line.add_argument("--cases", type=int, default=200, help="how many cases (200)")
     line.add_argument("--seed", type=int, default=1, help="where the generator starts (1)")
     line.add_argument("--program", help="the program, in place of the slow model")
     line.add_argument("--counts", action="store_true", help="print how often each kind came")
-    return line.parse_args()
 
 
-def main() -> int:
+def run(asked: argparse.Namespace) -> int:
     """Tries the cases, and answers the status."""
-    asked = words()
     # The first call may have to build the program, which takes long and says so.
     if asked.program and not command_lines.runs(asked.program):
         print(f"{asked.program} does not run")
@@ -161,7 +156,3 @@ def main() -> int:
             print(f"{times:8} {kind}")
     print(f"{asked.cases} cases: a machine that was saved goes on as if it had not been")
     return 0
-
-
-if __name__ == "__main__":
-    sys.exit(main())

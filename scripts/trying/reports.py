@@ -1,11 +1,10 @@
-#!/usr/bin/env python3
 """Compares `recline collect` with a slow model of it, and with scripts of the same events.
 
-Usage: scripts/random_reports [--cases N] [--prefixes M] [--seed S]
-                              [--program PATH | --collect COMMAND] [--keep-going] [--counts]
+Usage: scripts/trial reports [--cases N] [--prefixes M] [--seed S]
+                             [--program PATH | --collect COMMAND] [--keep-going] [--counts]
 
 Each case is a random computation of 1 to 256 processes over links of either kind, with recoveries,
-from the generator of scripts/random_scripts. What each process did becomes its reports, and those
+from the generator of scripts/trial scripts. What each process did becomes its reports, and those
 of all processes are interleaved at random, twice. The answers of the program must be those of the
 slow model (scripts/slow_model/collecting.py), to the byte, and the plans, histories and bundles
 among them those that the machine of `recline run` gives for the script of the same events; the
@@ -21,26 +20,23 @@ file; the status is then 1.
 import argparse
 import collections
 import os
-import pathlib
 import random
 import select
 import shlex
 import subprocess
-import sys
 import tempfile
 import time
 from collections.abc import Sequence
 
-sys.dont_write_bytecode = True  # leaves nothing beside the scripts
-
 import command_lines
+import workspace
 from slow_model.collecting import Collecting
 from slow_model.made_conversations import some_pieces
 from slow_model.made_reports import Input, Reporting
 from slow_model.made_texts import one_in
 from slow_model.texts import NOW, Record, choice, earliest_version, written
 
-TOP = pathlib.Path(__file__).resolve().parent.parent
+TOP = workspace.ROOT
 MOST_SECONDS = 60
 # Bytes of an input whose every prefix is tried, at least and at most.
 SHORT = range(150, 500)
@@ -172,9 +168,8 @@ class Trial:
                 f"{got[0][place:place + 200]!r}\nwanted\n{wanted[0][place:place + 200]!r}")
 
 
-def words() -> argparse.Namespace:
-    """The words of the command line."""
-    line = command_lines.parser(__doc__)
+def add_words(line: argparse.ArgumentParser) -> None:
+    """Adds the words of this job to those that are read."""
     line.add_argument("--cases", type=int, default=200, help="how many cases (200)")
     line.add_argument("--prefixes", type=int, default=1, metavar="M",
                       help="of how many short inputs every prefix is tried (1)")
@@ -187,12 +182,10 @@ def words() -> argparse.Namespace:
     line.add_argument(
         "--counts", action="store_true", help="print how often each kind of answer came"
     )
-    return line.parse_args()
 
 
-def main() -> int:
+def run(asked: argparse.Namespace) -> int:
     """Tries the cases, and answers the status."""
-    asked = words()
     trial = Trial([asked.program, "collect"], [asked.program, "run"], asked.prefixes)
     if asked.collect:
         trial = Trial(shlex.split(asked.collect), None, asked.prefixes)
@@ -215,7 +208,3 @@ def main() -> int:
         return 1
     print(f"{asked.cases} cases: reports and scripts of the same events agree")
     return 0
-
-
-if __name__ == "__main__":
-    sys.exit(main())

@@ -1,9 +1,8 @@
-#!/usr/bin/env python3
 """Compares a service with the slow model of it where its input is bad, and its devices are.
 
-    scripts/hostile_service [--job serve|collect] [--seconds N] [--seed S] [--case K]
-                            [--size BYTES] [--growths M] [--program WORDS] [--run WORDS]
-                            [--only NAME]
+    scripts/trial service [--job serve|collect] [--seconds N] [--seed S] [--case K]
+                          [--size BYTES] [--growths M] [--program WORDS] [--run WORDS]
+                          [--only NAME]
 
 The service is `recline serve`, or with --job collect `recline collect`. First the trials whose
 inputs are long: lines and whole inputs of 100 MB (--size), readers that stop, memory that runs out
@@ -36,16 +35,12 @@ import re
 import shlex
 import shutil
 import subprocess
-import sys
 import tempfile
 import time
 from collections.abc import Callable, Iterator
 from concurrent.futures import ProcessPoolExecutor
 from typing import Any, NamedTuple
 
-sys.dont_write_bytecode = True  # leaves nothing beside the scripts
-
-import command_lines
 import conversations
 import forget_trials
 import preloaded
@@ -288,9 +283,8 @@ def try_forgets(tried: Tried, number: int, most: int) -> Result:
 Call = tuple[Callable[..., Result], tuple[Any, ...]]
 
 
-def words() -> argparse.Namespace:
-    """The words of the command line."""
-    line = command_lines.parser(__doc__)
+def add_words(line: argparse.ArgumentParser) -> None:
+    """Adds the words of this job to those that are read."""
     line.add_argument("--job", choices=JOBS, default="serve", help="what the service does (serve)")
     line.add_argument("--seconds", type=float, default=8, metavar="N", help="how long (8)")
     line.add_argument("--seed", type=int, default=1, metavar="S", help="where inputs start (1)")
@@ -308,7 +302,6 @@ def words() -> argparse.Namespace:
     line.add_argument("--program", help="the service's command (recline and the job)")
     line.add_argument("--is-script", action="store_true", help="the program is run by another one")
     line.add_argument("--run", help="the command that runs a script (recline run)")
-    return line.parse_args()
 
 
 def tried_of(asked: argparse.Namespace, folder: str) -> Tried:
@@ -350,9 +343,8 @@ def jobs(tried: Tried, asked: argparse.Namespace) -> Iterator[Call]:
                 yield try_cases, (tried, range(first, 10**9, each), until)
 
 
-def main() -> int:
+def run(asked: argparse.Namespace) -> int:
     """Does what is asked for, and answers the status."""
-    asked = words()
     conversations.patience = asked.patience
     with (
         tempfile.TemporaryDirectory(prefix="recline-service-") as folder,
@@ -367,7 +359,3 @@ def main() -> int:
     told = ", ".join(f"{many} {name}" for name, many in sorted(counts.items()))
     print(f"hostile service, {asked.job}: {told}; {len(different)} not as they must be")
     return 1 if different or not counts else 0
-
-
-if __name__ == "__main__":
-    sys.exit(main())

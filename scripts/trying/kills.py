@@ -1,8 +1,7 @@
-#!/usr/bin/env python3
 """Kills workers of examples/live/heat.py at random, and compares the bits of what they work out.
 
-Usage: scripts/kill_workers [--runs N] [--seed S] [--from I] [--quick]
-                            [--service COMMAND] [--program PATH]
+Usage: scripts/trial kills [--runs N] [--seed S] [--from I] [--quick]
+                           [--service COMMAND] [--program PATH]
 
 Each run draws from its seed and number how many workers, cells and turns there are, how often they
 take checkpoints, alone or by rounds of markers, after how many events a new world begins, and which
@@ -30,11 +29,10 @@ import time
 from collections.abc import Sequence
 from typing import NamedTuple
 
-sys.dont_write_bytecode = True  # leaves nothing beside the scripts
-
 import command_lines
+import workspace
 
-TOP = pathlib.Path(__file__).resolve().parent.parent
+TOP = workspace.ROOT
 LIVE = TOP / "examples" / "live"
 HEAT = LIVE / "heat.py"
 PROGRAM = TOP / "recline"
@@ -276,9 +274,8 @@ def conversed(service: Sequence[str]) -> None:
         raise Failure(f"conversation.sh: status {ran.returncode}\n{ran.stdout}{ran.stderr}")
 
 
-def words() -> argparse.Namespace:
-    """What the words of the command line ask for."""
-    line = command_lines.parser(__doc__)
+def add_words(line: argparse.ArgumentParser) -> None:
+    """Adds the words of this job to those that are read."""
     line.add_argument("--runs", type=int, default=100, help="how many runs (100)")
     line.add_argument("--seed", type=int, help="where they are drawn from (the time)")
     line.add_argument("--from", type=int, default=0, dest="first", help="the first run (0)")
@@ -293,12 +290,6 @@ def words() -> argparse.Namespace:
     line.add_argument(
         "--program", default=str(PROGRAM), metavar="PATH", help="what ./explain runs (./recline)"
     )
-    asked = line.parse_args()
-    if asked.quick:
-        asked.runs, asked.seed = QUICK_RUNS, QUICK_SEED
-    if asked.seed is None:
-        asked.seed = int(time.time())
-    return asked
 
 
 def try_all(runs: Runs, asked: argparse.Namespace) -> bool:
@@ -311,17 +302,20 @@ def try_all(runs: Runs, asked: argparse.Namespace) -> bool:
         except Failure as failure:
             command = shlex.join([str(HEAT), *run.rod.words(), *run.options])
             print(f"run {number} of seed {asked.seed}: {failure}\n{command}")
-            print(f"again: scripts/kill_workers --seed {asked.seed} --from {number} --runs 1")
+            print(f"again: scripts/trial kills --seed {asked.seed} --from {number} --runs 1")
             return False
         if time.monotonic() >= next_word:
             next_word = time.monotonic() + SECONDS_OF_SILENCE
-            print(f"kill_workers: {runs.told()}", file=sys.stderr)
+            print(f"trial kills: {runs.told()}", file=sys.stderr)
     return True
 
 
-def main() -> int:
+def run(asked: argparse.Namespace) -> int:
     """Does all runs, and what is shown; answers the status."""
-    asked = words()
+    if asked.quick:
+        asked.runs, asked.seed = QUICK_RUNS, QUICK_SEED
+    if asked.seed is None:
+        asked.seed = int(time.time())
     # The first call may have to build the program, which takes long and says so.
     if str(PROGRAM) in (asked.program, *asked.service):
         command_lines.runs(PROGRAM)
@@ -337,7 +331,3 @@ def main() -> int:
             return 1
         print(f"{runs.told()}: each has the bits of a run without failures and of a plain loop")
     return 0
-
-
-if __name__ == "__main__":
-    sys.exit(main())

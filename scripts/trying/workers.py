@@ -1,8 +1,7 @@
-#!/usr/bin/env python3
 """Puts workers in threads under stress, and judges what they did by the plain definitions.
 
-Usage: scripts/stress_workers [--seconds N] [--seed N] [--side-by-side N] [--from N --lineages N]
-       scripts/stress_workers --judge FILE
+Usage: scripts/trial workers [--seconds N] [--seed N] [--side-by-side N] [--from N --lineages N]
+       scripts/trial workers --judge FILE
 
 The program line_stress, which is proved and built where it is not, has 2 to 64 workers make random
 calls over rings of 1 to 1,024 slots: they send, receive, take checks, begin rounds and report;
@@ -43,10 +42,7 @@ import time
 from collections.abc import Iterable
 from typing import Any
 
-sys.dont_write_bytecode = True  # leaves nothing beside the scripts
-
 import building
-import command_lines
 import worker_judge
 import worker_records
 
@@ -185,9 +181,8 @@ def judge_file(path: pathlib.Path) -> int:
     return 0
 
 
-def words_asked() -> argparse.Namespace:
-    """What the command line asks for."""
-    words = command_lines.parser(__doc__)
+def add_words(words: argparse.ArgumentParser) -> None:
+    """Adds the words of this job to those that are read."""
     path = pathlib.Path
     pairs = max(1, len(os.sched_getaffinity(0)) // 2)
     by_time = time.time_ns() // 1_000_000 % 1_000_000_000
@@ -199,12 +194,10 @@ def words_asked() -> argparse.Namespace:
     add("--lineages", type=int, default=MANY, help="how many of each program, at most")
     add("--program", type=path, help="a stress program that is built already")
     add("--judge", type=path, metavar="FILE", help="judges the text of a lineage, and runs nothing")
-    return words.parse_args()
 
 
-def main() -> int:
+def run(asked: argparse.Namespace) -> int:
     """Does what the words ask for, and answers the status."""
-    asked = words_asked()
     if asked.judge:
         return judge_file(asked.judge)
     program = asked.program or building.build_program("line_stress")
@@ -213,7 +206,3 @@ def main() -> int:
         print(f"stress: a difference: {failure}", file=sys.stderr)
     print(f"stress: {summary(counts)}: {len(failures)} differences, seed {asked.seed}")
     return 1 if failures or not counts["generations"] else 0
-
-
-if __name__ == "__main__":
-    sys.exit(main())

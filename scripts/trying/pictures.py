@@ -1,21 +1,19 @@
-#!/usr/bin/env python3
 """Tests of ./draw and ./explain: reading, what is shown, where labels go, sentences, wrong words.
 
-    scripts/test_pictures [PROGRAM]      PROGRAM is ./recline of this repository where none is given
+    scripts/trial pictures [PROGRAM]    PROGRAM is ./recline of this repository where none is given
 
-Scripts come from examples/, from here, and from the generator of scripts/random_scripts, with the
+Scripts come from examples/, from here, and from the generator of scripts/trial scripts, with the
 slow model in the program's place. Tests of reports stand in scripts/report_pictures.py, and those
 of histories of which something was let go in scripts/forget_pictures.py. The last line says how
 many tests passed; the status is 0 where all did.
 """
 
+import argparse
 import random
 import subprocess
 import sys
 import unittest
 from xml.etree import ElementTree
-
-sys.dont_write_bytecode = True  # leaves nothing beside the scripts
 
 import command_lines
 from forget_pictures import Forgets
@@ -29,7 +27,7 @@ from slow_model import claims
 from slow_model.histories import Name
 from slow_model.made_scripts import some_script
 
-PROGRAM = command_lines.program(__doc__) or str(program.PROGRAM)
+ASKED = argparse.Namespace(program=str(program.PROGRAM))
 RANDOM_CASES = 30
 SHEET = labels.Box(0, 0, 200, 200)
 SEVERAL = """world,1,3,fifo
@@ -50,7 +48,7 @@ send,0,0,61
 
 def ran(tool: str, given: list[str], text: bytes) -> tuple[bytes, bytes, int]:
     """What a tool writes and says, and its status."""
-    line = [str(TOP / tool), "--program", PROGRAM, *given]
+    line = [str(TOP / tool), "--program", ASKED.program, *given]
     done = subprocess.run(line, input=text, capture_output=True, check=False, timeout=60)
     return done.stdout, done.stderr, done.returncode
 
@@ -84,7 +82,7 @@ class Pictures(Case):
 
     def test_many_processes(self) -> None:
         text = long_script(64, 2000)
-        story = drawing.story_of(PROGRAM, text)
+        story = drawing.story_of(ASKED.program, text)
         self.assertGreater(len(story.recoveries[0].passes), 100)
         told = self.assert_well_drawn(story, views.Wish(), False)
         self.assertIn("other records are left out", told)
@@ -93,7 +91,7 @@ class Pictures(Case):
         self.assert_well_drawn(story, views.Wish(processes=(5, 6, 7)), True)
 
     def test_most_processes(self) -> None:
-        story = drawing.story_of(PROGRAM, long_script(256, 1000))
+        story = drawing.story_of(ASKED.program, long_script(256, 1000))
         self.assertGreater(len(story.recoveries[0].passes), 0)
         self.assert_well_drawn(story, views.Wish(), False)
         self.assert_well_drawn(story, views.Wish(processes=(5, 64, 255)), True)
@@ -102,7 +100,7 @@ class Pictures(Case):
     def test_long_numbers(self) -> None:
         first, *rest = SEVERAL.splitlines()
         text = "\n".join([first, *["rounds"] * 100_000, *rest, ""])
-        story = drawing.story_of(PROGRAM, text.encode())
+        story = drawing.story_of(ASKED.program, text.encode())
         self.assertEqual(story.recoveries[1].record, 100_010)
         self.assert_well_drawn(story, views.Wish(), False)
 
@@ -434,16 +432,18 @@ class Tools(unittest.TestCase):
         self.assertEqual(ran("explain", ["--recovery", "1"], SEVERAL.encode())[1:], (b"", 0))
 
 
-def main() -> int:
+def add_words(line: argparse.ArgumentParser) -> None:
+    """Adds the words of this job to those that are read."""
+    command_lines.add_program(line)
+
+
+def run(asked: argparse.Namespace) -> int:
     """Runs all tests, and answers the status."""
+    ASKED.program = asked.program or ASKED.program
     # The first call may have to build the program, which takes long and says so.
-    command_lines.runs(PROGRAM)
-    found = unittest.defaultTestLoader.loadTestsFromModule(sys.modules["__main__"])
+    command_lines.runs(ASKED.program)
+    found = unittest.defaultTestLoader.loadTestsFromModule(sys.modules[__name__])
     done = unittest.TextTestRunner(stream=sys.stderr, verbosity=0).run(found)
     failed = len({case.id().split(" ")[0] for case, _ in [*done.failures, *done.errors]})
     print(f"tests of pictures: {done.testsRun - failed} of {done.testsRun} passed")
     return 0 if done.wasSuccessful() else 1
-
-
-if __name__ == "__main__":
-    sys.exit(main())
