@@ -1,6 +1,6 @@
 //! Generations of workers in threads under stress: random calls, failures of random workers at
 //! random turns, damage and restarts, and a collector that plans all the while. Each generation is
-//! printed as records, which `scripts/stress_workers` judges by the definitions; the checker of the
+//! printed as records, which `scripts/trial workers` judges by the definitions; the checker of the
 //! repository judges each plan here.
 //!
 //! A lineage is a fleet and the generations that go on from it. The calls that its workers try are

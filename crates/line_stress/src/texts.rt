@@ -1,4 +1,4 @@
-//! What a generation did, as records that `scripts/stress_workers` judges.
+//! What a generation did, as records that `scripts/trial workers` judges.
 
 use crate::logs::AnswerLog;
 use crate::watches::Watch;
