@@ -169,13 +169,21 @@ has_some numbers = list_any (λ number. not (number == 0)) numbers
 abbrev pub is_above : Floor → Bool
 is_above floor = has_some floor.checks || has_some floor.sends
 
+-- what was let go of each of n processes before the floor
+abbrev pub floors_before : ℕ → Floor → List (ℕ × ℕ)
+floors_before n floor = floors_at n floor.checks floor.sends
+
+-- the same, where a check or a send was
+abbrev pub floors_above : ℕ → Floor → Option (List (ℕ × ℕ))
+floors_above n floor = if is_above floor then Some (floors_before n floor) else None
+
 -- what was let go of each process of a machine, in all
 abbrev pub floors_of_live : LiveMachine → List (ℕ × ℕ)
-floors_of_live live = floors_at (length live.kept.history) live.floor.checks live.floor.sends
+floors_of_live live = floors_before (length live.kept.history) live.floor
 
 -- the same, where a check or a send was
 abbrev pub floors_gone : LiveMachine → Option (List (ℕ × ℕ))
-floors_gone live = if is_above live.floor then Some (floors_of_live live) else None
+floors_gone live = floors_above (length live.kept.history) live.floor
 
 -- what stands before the listed round of that number is let go, or without one what stands before
 -- the line where each process fails

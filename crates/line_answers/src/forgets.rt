@@ -8,11 +8,11 @@ ghost use Rattle.line_fields.specs.Texts.{records_text};
 
 use crate::halts::Halt;
 use crate::replies::put_refusal;
-use crate::texts::floor_lent;
+use crate::texts::floor_ref;
 use line_claims::{number_field, put_floors};
 use line_devices::{DeviceFault, Sink};
 use line_fields::{RecordWriter, put_fields};
-use line_live::{ForgetError, Live};
+use line_live::{ForgetError, Live, OwnedFloor};
 use line_scripts::Command;
 use std::alloc::Global;
 
@@ -30,11 +30,32 @@ fn forget(alloc: Global, live: &mut Live, round: Option<u32>) -> Result<(), Forg
     }
 }
 
-/// The number of a cause.
-pub(crate) fn refusal_number(error: ForgetError) -> u32
+/// The number of a cause, as a refusal shows it.
+pub fn refusal_number(error: ForgetError) -> u32
     ensures { result ≡ spec.forget_code error }
 {
     error.code()
+}
+
+/// Writes `forgot,R`, and what was let go before a floor of each of `n` processes, after what a
+/// writer holds. Without a round it writes `forgot,-`.
+///
+/// It takes no memory, and fails only where the sink fails.
+pub fn put_let_go<K: Sink>(
+    sink: &mut K,
+    writer: &mut RecordWriter,
+    n: u32,
+    floor: &OwnedFloor,
+    round: Option<u32>,
+) -> Result<(), DeviceFault>
+    ensures { Outputs result (K.taken sink.old) (K.taken sink.new) (K.faults sink.old)
+        (K.faults sink.new) writer.new
+        (writer.old
+        ++ records_text
+        (spec.forgot_record round ∷ floors_records 0 (spec.floors_before n floor.now))) }
+{
+    put_fields(sink, writer, b"forgot", &[number_field(round)])?;
+    put_floors(sink, writer, n, &floor_ref(floor))
 }
 
 // Writes `forgot,R`, and what was let go of each process in all.
@@ -50,8 +71,8 @@ fn put_floor_told<K: Sink>(
         ++ records_text
         (spec.forgot_record round ∷ floors_records 0 (spec.floors_of_live live.now))) }
 {
-    put_fields(sink, writer, b"forgot", &[number_field(round)])?;
-    put_floors(sink, writer, live.kept().history().n(), &floor_lent(live))
+    let n = live.kept().history().n();
+    put_let_go(sink, writer, n, live.floor(), round)
 }
 
 /// Lets go what stands before a listed round, or without one what stands before the line where
