@@ -1,12 +1,17 @@
 -- What is kept of a collection, beside the one that keeps everything: what is planned, what all go on
 -- from, and what is let go.
-use Rattle.std.proofs.Common.{◌≡◌, ℕ, ◌+◌, ◌<◌, ◌≤◌, Bool, List, [], length, map, None, sym, ap, ◌∙◌, subst, arith}
+use Rattle.std.proofs.Common.{◌≡◌, ℕ, ◌+◌, ◌<◌, ◌≤◌, Bool, List, [], length, map, Option, None, refl, sym, ap, ◌∙◌, subst, arith}
 use Rattle.std.specs.Prelude.{IsTrue}
+use Rattle.std.specs.List.{range_with_len}
 use Rattle.std.proofs.lemmas.List.{length-map, length-replicate}
 use Rattle.std.proofs.lemmas.List.Elements.{All-nil}
 use Rattle.std.proofs.lemmas.List.FromFn.{length-map-range_with_len}
 use Rattle.line_catalogue.proofs.RestartLemmas.{Agrees-restarted}
+use Rattle.line_answers.specs.Replies.{process_record}
+use Rattle.line_fields.specs.Records.{Record}
 use Rattle.line_collect.specs.Alongside.{IsLeftOfAll}
+use Rattle.line_collect.specs.Answers.{going_on_record, plan_records, plan_records_with}
+use Rattle.line_collect.specs.LiveAnswers.{live_going_on_record, live_plan_records}
 use Rattle.line_collect.specs.Collections.{CollectionView, IsPlanOf, IsPlanToGoBack, gone_back}
 use Rattle.line_collect.specs.Lives.{ForgetsReports, IsFloorOfLive, IsLivePlan, LiveCollectionView, keeping}
 use Rattle.line_collect.proofs.AgreedChains.{chain_whole}
@@ -15,6 +20,9 @@ use Rattle.line_collect.proofs.AgreedLatest.{cut_again, floor_below, latest_whol
 use Rattle.line_collect.proofs.AgreedTransit.{transit_cut}
 use Rattle.line_collect.proofs.MarksAlike.{marks_cut, marks_through, restart_same}
 use Rattle.line_collect.proofs.RestartLeft.{damaged_long, marks_same, stays_new}
+use Rattle.line_cuts.proofs.AgreementCuts.{incarnation_cut}
+use Rattle.line_cuts.proofs.ConsistentCuts.{tape_cut}
+use Rattle.line_moves.specs.Restarts.{restored_state}
 use Rattle.line_cuts.specs.Cuts.{Floor, FloorSurvives, IsFloor, cut_choice, cut_history, cut_line, cut_marks, floor_check, floor_line, lost_sends, whole_choice, whole_entry, whole_floor, whole_line, whole_name}
 use Rattle.line_cuts.proofs.FloorStays.{floor_restarted}
 use Rattle.line_cuts.proofs.LaterFloors.{survives_both}
@@ -27,23 +35,30 @@ use Rattle.line_cuts.proofs.FloorLemmas.{line_of_checks}
 use Rattle.line_live.proofs.LiveFloors.{all_checks}
 use Rattle.line_cuts.proofs.SameLemmas.{chain_same, latest_line_same, survives_same}
 use Rattle.line_lives.specs.Lives.{whole_plan}
-use Rattle.line_lives.proofs.RestartCuts.{further_same}
+use Rattle.line_lives.proofs.ListLemmas.{map_same}
+use Rattle.line_lives.proofs.RestartCuts.{further_same, state_same}
 use Rattle.line_lives.proofs.TwoForgets.{machine_both}
 use Rattle.line_moves.specs.Listed.{ListedRound}
 use Rattle.line_names.specs.declared.choices.Choice.{Choice}
-use Rattle.line_names.specs.declared.choices.Choice.TheVariants.{Check as AtCheck}
+use Rattle.line_names.specs.declared.choices.Choice.TheVariants.{Check as AtCheck, Now}
 use Rattle.line_names.specs.Lines.{choice_at, IsNowhereLater}
 use Rattle.line_names.specs.Order.{IsNoLater}
 use Rattle.line_plan.specs.declared.plans.Plan.{Plan}
 use Rattle.line_steps.specs.declared.modes.Mode.TheVariants.{Fifo}
 use Rattle.line_tape.specs.Chain.{IsChain}
-use Rattle.line_tape.specs.History.{Process, process_at}
-use Rattle.line_tape.specs.Restart.{HasFurther, HaveFurther, restarted_history, restarted_marks}
+use Rattle.line_tape.specs.declared.events.Event.{Event}
+use Rattle.line_tape.specs.History.{Process, incarnation_at, process_at, tape_at}
+use Rattle.line_tape.specs.Restart.{HasFurther, HaveFurther, restarted_history, restarted_incarnation, restarted_marks}
 use Rattle.line_tape.specs.Survival.{IsLatest, survives}
 use Rattle.line_tape.specs.Transit.{in_transit}
 use Rattle.line_tape.specs.Views.{MarksView}
 use Rattle.line_moves.proofs.LineFacts.{IsLine-latest}
 use Rattle.line_world.specs.Machine.{Machine}
+
+-- who goes back has a further incarnation, whatever the number of the check
+restarted_same : (floor : Floor) (p : ℕ) (choice : Choice) (inc : ℕ) → restarted_incarnation choice inc ≡ restarted_incarnation (whole_choice floor p choice) inc
+restarted_same floor p (AtCheck c) inc = refl
+restarted_same floor p Now inc = refl
 
 module _ (live : LiveCollectionView) (whole : CollectionView) (left : IsLeftOfAll live whole) where
   abbrev floor : Floor
@@ -114,6 +129,27 @@ module _ (live : LiveCollectionView) (whole : CollectionView) (left : IsLeftOfAl
 
     pub plan_to_go_back : IsPlanToGoBack whole failed (whole_plan floor plan)
     plan_to_go_back = record { plan_is = plan_of_all; further = further_whole }
+
+    -- where each process goes on is told as by the whole
+    going_on_same : (p : ℕ) → p < length whole.history → live_going_on_record live plan.line p ≡ going_on_record whole.history line p
+    going_on_same p h =
+        let choice : Choice = choice_at plan.line p in
+        let inc : restarted_incarnation choice (incarnation_at live.kept.history p) ≡ restarted_incarnation (whole_choice floor p choice) (incarnation_at whole.history p) =
+        ap (restarted_incarnation choice) (ap (λ (h : List Process). incarnation_at h p) left.history ∙ incarnation_cut floor whole.history p)
+        ∙ restarted_same floor p choice (incarnation_at whole.history p) in
+        let state : restored_state (tape_at live.kept.history p) choice ≡ restored_state (tape_at whole.history p) (whole_choice floor p choice) =
+        ap (λ (h : List Process). restored_state (tape_at h p) choice) left.history
+        ∙ ap (λ (es : List Event). restored_state es choice) (tape_cut floor whole.history p)
+        ∙ state_same floor p (tape_at whole.history p) choice (low p) in
+        ap (λ (i : ℕ). process_record p (whole_choice floor p choice) i (restored_state (tape_at live.kept.history p) choice)) inc
+        ∙ ap (λ (s : Option (List ℕ)). process_record p (whole_choice floor p choice) (restarted_incarnation (whole_choice floor p choice) (incarnation_at whole.history p)) s) state
+        ∙ ap (λ (w : Choice). process_record p w (restarted_incarnation w (incarnation_at whole.history p)) (restored_state (tape_at whole.history p) w)) (sym (there p h))
+
+    pub told_same : (word : List ℕ) → live_plan_records word live plan ≡ plan_records word whole.history (whole_plan floor plan)
+    told_same word =
+        ap (λ (lines : List Record). plan_records_with word lines (whole_plan floor plan))
+        (ap (λ (n : ℕ). map (live_going_on_record live plan.line) (range_with_len 0 n)) (ap (λ (h : List Process). length h) left.history ∙ length_history floor whole.history)
+        ∙ map_same (live_going_on_record live plan.line) (going_on_record whole.history line) 0 (length whole.history) (λ p l h. going_on_same p (omega arith)))
 
     abbrev new : List Process
     new = restarted_history whole.history line

@@ -22,3 +22,5 @@ mod AllLemmas
 mod ToldLemmas
 mod ToldPlans
 mod CallLemmas
+mod PlanLemmas
+mod AnsweredLemmas

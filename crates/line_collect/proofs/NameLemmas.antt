@@ -26,6 +26,7 @@ named_otherwise n r other =
       other names.Plan,
       other names.Live,
       other names.Recover,
+      other names.Forget,
       other names.History,
       other names.Bundle,
     ) refl

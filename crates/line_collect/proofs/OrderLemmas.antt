@@ -67,6 +67,7 @@ report_grown old new (reports.Bar by check) records stays h = same_grown old.his
 report_grown old new (reports.Plan failed) records stays h = same_grown old.history new.history (reports.Plan failed) (λ p. refl) (history_of _ _ h.3)
 report_grown old new reports.Live records stays h = same_grown old.history new.history reports.Live (λ p. refl) (history_of _ _ h.2.3)
 report_grown old new (reports.Recover failed) records stays h = absurd stays
+report_grown old new reports.Forget records stays h = absurd h
 report_grown old new reports.History records stays h = same_grown old.history new.history reports.History (λ p. refl) (history_of _ _ h.1)
 report_grown old new (reports.Bundle failed) records stays h = same_grown old.history new.history (reports.Bundle failed) (λ p. refl) (history_of _ _ h.3)
 report_grown old new (reports.Refused code) records stays h = absurd h

@@ -19,7 +19,7 @@ use Rattle.line_fields.specs.Shapes.{Reader, alone, two, four, five}
 use Rattle.line_claims.specs.Numbers.{incarnation, none_text, numbers, plain, round, round_or_none}
 use Rattle.line_claims.specs.Ranges.{IsRoundNumber}
 use Rattle.line_collect.specs.declared.reports.Report.{Report}
-use Rattle.line_collect.specs.declared.reports.Report.TheVariants.{Send, Receive, Check, Mark, Damage, Bar, Plan, Live, Recover, History, Bundle, Refused}
+use Rattle.line_collect.specs.declared.reports.Report.TheVariants.{Send, Receive, Check, Mark, Damage, Bar, Plan, Live, Recover, Forget, History, Bundle, Refused}
 use Rattle.line_collect.specs.Ranges.{AreMembersBelow, IsReportInRange}
 use Rattle.line_collect.specs.Reports.{report_among, report_in, send_report, receive_report, check_report, mark_report, report_of_check, report_of_failed}
 
@@ -177,11 +177,12 @@ report_within n r =
     ∷ (is_named (codes "plan"), report_of_failed Plan n r)
     ∷ (is_named (codes "live"), alone Live r)
     ∷ (is_named (codes "recover"), report_of_failed Recover n r)
+    ∷ (is_named (codes "forget"), alone Forget r)
     ∷ (is_named (codes "history"), alone History r)
     ∷ (is_named (codes "bundle"), report_of_failed Bundle n r)
     ∷ [] in
     first_within (IsReportInRange n) readings
-    (send_within n r, (receive_within n r, (checkpoint_within n r, (mark_within n r, (check_within Damage n r (λ p check low. low), (check_within Bar n r (λ p check low. low), (failed_within Plan n r (λ set below. below), (alone_within n Live r tt, (failed_within Recover n r (λ set below. below), (alone_within n History r tt, (failed_within Bundle n r (λ set below. below), tt)))))))))))
+    (send_within n r, (receive_within n r, (checkpoint_within n r, (mark_within n r, (check_within Damage n r (λ p check low. low), (check_within Bar n r (λ p check low. low), (failed_within Plan n r (λ set below. below), (alone_within n Live r tt, (failed_within Recover n r (λ set below. below), (alone_within n Forget r tt, (alone_within n History r tt, (failed_within Bundle n r (λ set below. below), tt))))))))))))
 
 pub spelled_within : (n : ℕ) (r : Record) (report : Report) → report_in n r ≡ Ok report → IsReportInRange n report
 spelled_within n r report is = subst (λ (read : Result Report Fault). IfOk read (IsReportInRange n)) is (report_within n r)

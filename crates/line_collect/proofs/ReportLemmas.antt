@@ -297,6 +297,7 @@ module _ (live : LiveCollectionView) (whole : CollectionView) (left : IsLeftOfAl
   report_taken (reports.Plan failed) told new range none does = absurd does
   report_taken reports.Live told new range none does = absurd does
   report_taken (reports.Recover failed) told new range none does = absurd does
+  report_taken reports.Forget told new range none does = absurd does
   report_taken reports.History told new range none does = absurd does
   report_taken (reports.Bundle failed) told new range none does = absurd does
   report_taken (reports.Refused code) told new range none does = absurd does

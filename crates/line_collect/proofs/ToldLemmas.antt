@@ -84,6 +84,7 @@ module _ (old : LiveCollectionView) (told : HasWholeNumbers old) where
   does_told (reports.Plan failed) records new range does = absurd range
   does_told reports.Live records new range does = absurd range
   does_told (reports.Recover failed) records new range does = absurd range
+  does_told reports.Forget records new range does = absurd range
   does_told reports.History records new range does = absurd range
   does_told (reports.Bundle failed) records new range does = absurd range
   does_told (reports.Refused code) records new range does = absurd range

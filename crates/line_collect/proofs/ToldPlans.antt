@@ -16,7 +16,7 @@ use Rattle.line_tape.specs.declared.events.Event.TheVariants.{Send as SendEvent,
 use Rattle.line_tape.specs.declared.limits.TheConstants.{MOST_EVENTS}
 use Rattle.line_tape.specs.Chain.{first_ceilings, latest_check, latest_choice, lowered_ceilings, next_lower, LeadsTo}
 use Rattle.line_tape.specs.Event.{checks, sends}
-use Rattle.line_tape.specs.Front.{place}
+use Rattle.line_tape.specs.Front.{HasChoice, place}
 use Rattle.line_tape.specs.History.{Process, fresh, tape_at, IsHistory}
 use Rattle.line_tape.specs.Line.{events_before}
 use Rattle.line_tape.specs.Survival.{is_allowed, is_damaged, survives}
@@ -72,6 +72,10 @@ module _ (history : List Process) (is : IsHistory history) where
 
   checks_few : (p : ℕ) → checks (tape_at history p) ≤ MOST_EVENTS
   checks_few p = omega (arith, tape_few p, checks_le (tape_at history p))
+
+  -- a check that there is
+  pub check_told : (p check : ℕ) → HasChoice (tape_at history p) (AtCheck check) → check ≤ MOST_EVENTS
+  check_told p check there = let low : check ≤ checks (tape_at history p) = there in omega (arith, low, checks_few p)
 
   pub sends_few : (p : ℕ) → sends (tape_at history p) ≤ MOST_EVENTS
   sends_few p = omega (arith, tape_few p, sends_le (tape_at history p))

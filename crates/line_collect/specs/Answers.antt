@@ -55,12 +55,16 @@ abbrev pub going_on_records : List Process → List Choice → List Record
 going_on_records history line =
     map (going_on_record history line) (range_with_len 0 (length history))
 
+-- the records of a plan, the first of which begins with this word, with these line records
+abbrev pub plan_records_with : List ℕ → List Record → Plan → List Record
+plan_records_with word lines plan =
+    recovered_record word plan.sweeps (length plan.certificate.items) (length plan.replays.items)
+    ∷ (lines ++ (pass_records plan.certificate.items ++ replay_records plan.replays.items))
+
 -- the records of a plan, the first of which begins with this word
 abbrev pub plan_records : List ℕ → List Process → Plan → List Record
 plan_records word history plan =
-    recovered_record word plan.sweeps (length plan.certificate.items) (length plan.replays.items)
-    ∷ (going_on_records history plan.line
-    ++ (pass_records plan.certificate.items ++ replay_records plan.replays.items))
+    plan_records_with word (going_on_records history plan.line) plan
 
 -- the claim of a plan for these failed
 abbrev pub claim_of_plan : CollectionView → List Bool → Plan → Claim
@@ -79,7 +83,7 @@ Plans old failed records new =
     (plan : Plan) × IsPlanToGoBack old failed plan
     × (records ≡ plan_records (codes "planned") old.history plan) × (new ≡ old)
 
--- a report that is not refused may be answered by these records, and leaves new
+-- a report that is not refused may be answered by these records, and leaves new; nothing is let go
 abbrev pub DoesAsReported : CollectionView → Report → List Record → CollectionView → Type 0
 DoesAsReported old (reports.Send by inc to body) records new =
     (records ≡ sent_record (next_name old.history by) ∷ [])
@@ -104,6 +108,7 @@ DoesAsReported old (reports.Recover failed) records new =
     (plan : Plan) × IsPlanToGoBack old failed plan
     × (records ≡ plan_records (codes "recovered") old.history plan)
     × (new ≡ gone_back old plan.line)
+DoesAsReported old reports.Forget records new = ⊥
 DoesAsReported old reports.History records new =
     (records ≡ history_records old.history) × (new ≡ old)
 DoesAsReported old (reports.Bundle failed) records new =

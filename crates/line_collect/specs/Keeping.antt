@@ -8,7 +8,7 @@ use Rattle.line_collect.specs.declared.keeping.KeptReport.TheVariants as kepts
 use Rattle.line_collect.specs.declared.reports.Report.{Report}
 use Rattle.line_collect.specs.declared.reports.Report.TheVariants.{Send, Receive, Check, Mark}
 use Rattle.line_collect.specs.declared.reports.Report.TheVariants.{Damage, Bar, Plan, Live, Recover}
-use Rattle.line_collect.specs.declared.reports.Report.TheVariants.{History, Bundle, Refused}
+use Rattle.line_collect.specs.declared.reports.Report.TheVariants.{Forget, History, Bundle, Refused}
 
 -- the report of what a record says of processes, if there are such
 abbrev pub of_some_or_refused : {A : Type 0} → (A → Report) → Option A → Report
@@ -26,6 +26,7 @@ report_with_bytes (kepts.Bar by check) bytes = Bar by check
 report_with_bytes (kepts.Plan failed) bytes = Plan failed
 report_with_bytes kepts.Live bytes = Live
 report_with_bytes (kepts.Recover failed) bytes = Recover failed
+report_with_bytes kepts.Forget bytes = Forget
 report_with_bytes kepts.History bytes = History
 report_with_bytes (kepts.Bundle failed) bytes = Bundle failed
 report_with_bytes (kepts.Refused code) bytes = Refused code

@@ -1,3 +1,4 @@
+pub mod AllAnswers
 pub mod Alongside
 pub mod Answers
 pub mod Brought
@@ -5,6 +6,7 @@ pub mod Collecting
 pub mod Collections
 pub mod Keeping
 pub mod Laws
+pub mod LiveAnswers
 pub mod Lives
 pub mod Names
 pub mod Orders

@@ -7,7 +7,7 @@ use Rattle.line_claims.specs.Ranges.{IsRoundNumber}
 use Rattle.line_collect.specs.declared.reports.Report.{Report}
 use Rattle.line_collect.specs.declared.reports.Report.TheVariants.{Send, Receive, Check, Mark}
 use Rattle.line_collect.specs.declared.reports.Report.TheVariants.{Damage, Bar, Plan, Live, Recover}
-use Rattle.line_collect.specs.declared.reports.Report.TheVariants.{History, Bundle, Refused}
+use Rattle.line_collect.specs.declared.reports.Report.TheVariants.{Forget, History, Bundle, Refused}
 
 -- all of these processes are below n
 abbrev pub AreMembersBelow : ℕ → List Bool → Type 0
@@ -26,6 +26,7 @@ IsReportInRange n (Bar by check) = by < n
 IsReportInRange n (Plan failed) = AreMembersBelow n failed
 IsReportInRange n Live = Unit {0}
 IsReportInRange n (Recover failed) = AreMembersBelow n failed
+IsReportInRange n Forget = Unit {0}
 IsReportInRange n History = Unit {0}
 IsReportInRange n (Bundle failed) = AreMembersBelow n failed
 IsReportInRange n (Refused code) = code ≡ code_of faults.NoSuchProcess

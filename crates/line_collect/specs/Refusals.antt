@@ -95,6 +95,7 @@ refusal_of_report old (reports.Bar by check) =
 refusal_of_report old (reports.Plan failed) = None
 refusal_of_report old reports.Live = None
 refusal_of_report old (reports.Recover failed) = None
+refusal_of_report old reports.Forget = None
 refusal_of_report old reports.History = None
 refusal_of_report old (reports.Bundle failed) = None
 refusal_of_report old (reports.Refused code) = Some code

@@ -16,7 +16,7 @@ use Rattle.line_claims.specs.Versions.{most_in}
 use Rattle.line_collect.specs.declared.reports.Report.{Report}
 use Rattle.line_collect.specs.declared.reports.Report.TheVariants.{Send, Receive, Check, Mark}
 use Rattle.line_collect.specs.declared.reports.Report.TheVariants.{Damage, Bar, Plan, Live, Recover}
-use Rattle.line_collect.specs.declared.reports.Report.TheVariants.{History, Bundle, Refused}
+use Rattle.line_collect.specs.declared.reports.Report.TheVariants.{Forget, History, Bundle, Refused}
 
 -- reports,V,N: the number of processes, as many as version V has room for
 unfoldable pub reports_of : Record → Result ℕ Fault
@@ -82,6 +82,7 @@ report_in n r =
     else if bytes_eq (field r 0) (codes "plan") then report_of_failed Plan n r
     else if bytes_eq (field r 0) (codes "live") then alone Live r
     else if bytes_eq (field r 0) (codes "recover") then report_of_failed Recover n r
+    else if bytes_eq (field r 0) (codes "forget") then alone Forget r
     else if bytes_eq (field r 0) (codes "history") then alone History r
     else if bytes_eq (field r 0) (codes "bundle") then report_of_failed Bundle n r
     else Err faults.BadRecord

@@ -2,7 +2,7 @@
 use Rattle.line_collect.specs.declared.reports.Report.{Report}
 use Rattle.line_collect.specs.declared.reports.Report.TheVariants.{Send, Receive, Check, Mark}
 use Rattle.line_collect.specs.declared.reports.Report.TheVariants.{Damage, Bar, Plan, Live, Recover}
-use Rattle.line_collect.specs.declared.reports.Report.TheVariants.{History, Bundle, Refused}
+use Rattle.line_collect.specs.declared.reports.Report.TheVariants.{Forget, History, Bundle, Refused}
 use Rattle.line_collect.specs.declared.reports.ReportRef.{ReportRef}
 use Rattle.line_collect.specs.declared.reports.ReportRef.TheVariants as lent
 
@@ -17,6 +17,7 @@ report_of_ref (lent.Bar by check) = Bar by check
 report_of_ref (lent.Plan failed) = Plan failed.now
 report_of_ref lent.Live = Live
 report_of_ref (lent.Recover failed) = Recover failed.now
+report_of_ref lent.Forget = Forget
 report_of_ref lent.History = History
 report_of_ref (lent.Bundle failed) = Bundle failed.now
 report_of_ref (lent.Refused code) = Refused code

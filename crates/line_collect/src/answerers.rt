@@ -10,7 +10,7 @@ ghost use Rattle.line_devices.specs.Devices.{one_more};
 ghost use Rattle.line_collect.specs.Collecting.{Began, Faulted, HearsReport, collect_rules};
 
 use crate::answering::answer_report;
-use crate::collections::Collection;
+use crate::live_collections::LiveCollection;
 use crate::readers::ReportReader;
 use crate::reports::reports_of;
 use line_conversations::{Answerer, Outcome, ServeError, Stop, converse};
@@ -24,16 +24,16 @@ use std::marker::Model;
 #[derive(Drop)]
 pub(crate) struct Collecting {
     alloc: Global,
-    collection: Option<Collection>,
+    collection: Option<LiveCollection>,
     // The report of the record that is read.
     reader: ReportReader,
 }
 
 impl Model for Collecting {
     ghost use Rattle.std.specs.Prelude.{Option};
-    ghost use Rattle.line_collect.specs.Collections.{CollectionView};
+    ghost use Rattle.line_collect.specs.Lives.{LiveCollectionView};
 
-    ghost Value = { Option CollectionView };
+    ghost Value = { Option LiveCollectionView };
 
     ghost view = { λ s. s.collection };
 }
@@ -42,7 +42,7 @@ impl Model for Collecting {
 #[inline(never)]
 fn begin(
     alloc: Global,
-    collection: &mut Option<Collection>,
+    collection: &mut Option<LiveCollection>,
     row: &FieldRow<'_>,
 ) -> Result<(), ReadError>
     requires { collection.old ≡ None }
@@ -54,7 +54,7 @@ fn begin(
         Ok(n) => n,
         Err(fault) => return Err(ReadError::Fault(fault)),
     };
-    match Collection::new(alloc, n) {
+    match LiveCollection::new(alloc, n) {
         Ok(begun) => {
             *collection = Some(begun);
             Ok(())
@@ -67,7 +67,7 @@ fn begin(
 /// Answers the report that a record spells.
 fn answer_read<K: Sink>(
     alloc: Global,
-    collection: &mut Collection,
+    collection: &mut LiveCollection,
     row: &FieldRow<'_>,
     reader: &mut ReportReader,
     sink: &mut K,
@@ -83,7 +83,7 @@ fn answer_read<K: Sink>(
     ensures blamed { IfErr result (λ stop. BlamesSink stop (K.faults sink.old)
         (K.faults sink.new)) }
 {
-    let n = collection.history().n();
+    let n = collection.kept().history().n();
     match reader.read(n, row) {
         Ok(()) => answer_report(alloc, collection, sink, writer, &reader.report()),
         Err(fault) => Err(Stop::Fault(fault)),
@@ -93,7 +93,7 @@ fn answer_read<K: Sink>(
 /// Answers a record, but for the empty line.
 fn answer_one<K: Sink>(
     alloc: Global,
-    collection: &mut Option<Collection>,
+    collection: &mut Option<LiveCollection>,
     row: &FieldRow<'_>,
     reader: &mut ReportReader,
     sink: &mut K,
@@ -168,7 +168,8 @@ impl Answerer for Collecting {
 /// Reads reports from a source for as long as it gives bytes, and puts the answers to them.
 ///
 /// The first record is `reports,V,N`; each record after it is a report of what a process did, or
-/// asks for a plan, a recovery, the history or a check text (docs/REPORTS.md). Each is answered by
+/// asks for a plan, a recovery, the history or a check text, or that what is never needed again is
+/// let go (docs/REPORTS.md). Each is answered by
 /// its records, or by `fault,CODE,NAME`, and then by an empty line. All that was read is answered,
 /// put and let out before more is asked for. It fails where memory does not suffice for the start,
 /// before anything is read, and where a device fails. After a failure of the source what was read

@@ -2,8 +2,9 @@
 
 ghost use Rattle.std.specs.Prelude.{◌≡◌, ◌++◌, Ok, Err, length};
 ghost use Rattle.line_collect.specs.Answers as spec;
-ghost use Rattle.line_collect.specs.Collections.{CollectionView};
-ghost use Rattle.line_collect.specs.Writing.{DoesReport, outcome_if_written};
+ghost use Rattle.line_collect.specs.Collections.{IsPlanToGoBack};
+ghost use Rattle.line_collect.specs.Lives.{LiveCollectionView};
+ghost use Rattle.line_collect.specs.Writing.{DoesReport, TellsLive, outcome_if_written};
 ghost use Rattle.line_devices.specs.Devices.{Outputs};
 ghost use Rattle.line_fields.specs.Texts.{record_text};
 ghost use Rattle.line_collect.specs.declared.reports.Report.{Report};
@@ -11,17 +12,21 @@ ghost use Rattle.line_collect.specs.declared.reports.Report.TheVariants as repor
 ghost use Rattle.line_collect.specs.Ranges.{IsReportInRange};
 ghost use Rattle.line_collect.specs.Shown.{report_of_ref};
 
-use crate::collections::Collection;
+use crate::live_collections::LiveCollection;
 use crate::plan_records::put_plan_records;
 use crate::refusals::CollectError;
 use crate::reports::ReportRef;
 use crate::tellings::Told;
-use line_answers::{everybody, put_refusal};
-use line_claims::{earliest_version, numbers_of, put_check_text, put_history};
+use line_answers::{
+    everybody, put_left_claim, put_left_history, put_let_go, put_refusal, refusal_number,
+};
+use line_claims::{ClaimRef, numbers_of};
 use line_conversations::{Outcome, Stop};
 use line_devices::{DeviceFault, Sink};
 use line_fields::{Field, ReadError, RecordWriter, put_ending, put_numbers};
-use line_names::ProcSet;
+use line_live::ForgetError;
+use line_names::{MsgName, ProcSet};
+use line_plan::Plan;
 use std::alloc::Global;
 
 /// The outcome of an answer, if all of it was written.
@@ -76,7 +81,7 @@ fn tell<K: Sink>(
     writer: &mut RecordWriter,
     answer: Result<Told, CollectError>,
 ) -> Result<Outcome, Stop>
-    ensures { (old new : CollectionView) (report : Report) → spec.TakesReport old report answer new
+    ensures { (old new : LiveCollectionView) (report : Report) → TellsLive old report answer new
         → DoesReport old report result new (K.taken sink.old) (K.taken sink.new)
         (K.faults sink.old) (K.faults sink.new) writer.old writer.new }
 {
@@ -90,18 +95,16 @@ fn tell<K: Sink>(
     }
 }
 
-/// Writes the history.
+/// Writes what is kept of the history.
 fn put_collected<K: Sink>(
-    collection: &Collection,
+    live: &LiveCollection,
     sink: &mut K,
     writer: &mut RecordWriter,
 ) -> Result<Outcome, Stop>
-    ensures { DoesReport collection.now reports.History result collection.now
-        (K.taken sink.old) (K.taken sink.new) (K.faults sink.old) (K.faults sink.new) writer.old
-        writer.new }
+    ensures { DoesReport live.now reports.History result live.now (K.taken sink.old)
+        (K.taken sink.new) (K.faults sink.old) (K.faults sink.new) writer.old writer.new }
 {
-    let history = collection.history();
-    let put = put_history(sink, writer, earliest_version(history.n()), history);
+    let put = put_left_history(sink, writer, live.floor(), live.kept().history());
     outcome_if_written(put, Outcome::Done)
 }
 
@@ -109,21 +112,24 @@ fn put_collected<K: Sink>(
 #[inline(never)]
 fn put_bundle<K: Sink>(
     alloc: Global,
-    collection: &Collection,
+    live: &LiveCollection,
     sink: &mut K,
     writer: &mut RecordWriter,
     failed: &ProcSet,
 ) -> Result<Outcome, Stop>
-    ensures { DoesReport collection.now (reports.Bundle failed.now) result collection.now
-        (K.taken sink.old) (K.taken sink.new) (K.faults sink.old) (K.faults sink.new) writer.old
-        writer.new }
+    ensures { DoesReport live.now (reports.Bundle failed.now) result live.now (K.taken sink.old)
+        (K.taken sink.new) (K.faults sink.old) (K.faults sink.new) writer.old writer.new }
 {
-    match collection.plan_for(alloc, failed) {
+    let kept = live.kept();
+    match kept.plan_for(alloc, failed) {
         Ok(plan) => {
-            let history = collection.history();
-            let marks = collection.marks();
-            let entries = plan.certificate.as_slice();
-            let put = put_check_text(sink, writer, history, marks, failed, &plan.line, entries);
+            let claim = ClaimRef {
+                marks: kept.marks(),
+                failed,
+                line: &plan.line,
+                certificate: plan.certificate.as_slice(),
+            };
+            let put = put_left_claim(sink, writer, live.floor(), kept.history(), &claim);
             outcome_if_written(put, Outcome::Done)
         }
         Err(_) => Err(Stop::Fault(ReadError::OutOfMemory)),
@@ -134,18 +140,19 @@ fn put_bundle<K: Sink>(
 #[inline(never)]
 fn put_plan_for<K: Sink>(
     alloc: Global,
-    collection: &Collection,
+    live: &LiveCollection,
     sink: &mut K,
     writer: &mut RecordWriter,
     failed: &ProcSet,
 ) -> Result<Outcome, Stop>
-    ensures { DoesReport collection.now (reports.Plan failed.now) result collection.now
-        (K.taken sink.old) (K.taken sink.new) (K.faults sink.old) (K.faults sink.new) writer.old
-        writer.new }
+    ensures { DoesReport live.now (reports.Plan failed.now) result live.now (K.taken sink.old)
+        (K.taken sink.new) (K.faults sink.old) (K.faults sink.new) writer.old writer.new }
 {
-    match collection.plan(alloc, failed) {
+    match live.kept().plan(alloc, failed) {
         Ok(plan) => {
-            let put = put_plan_records(sink, writer, b"planned", collection.history(), &plan);
+            let mut plan = plan;
+            live.bring_names_back(failed, &mut plan);
+            let put = put_plan_records(sink, writer, b"planned", live, &plan);
             outcome_if_written(put, Outcome::Done)
         }
         Err(error) => tell(sink, writer, Err(error)),
@@ -156,38 +163,82 @@ fn put_plan_for<K: Sink>(
 #[inline(never)]
 fn put_live_plan<K: Sink>(
     alloc: Global,
-    collection: &Collection,
+    live: &LiveCollection,
     sink: &mut K,
     writer: &mut RecordWriter,
 ) -> Result<Outcome, Stop>
-    ensures { DoesReport collection.now reports.Live result collection.now
-        (K.taken sink.old) (K.taken sink.new) (K.faults sink.old) (K.faults sink.new) writer.old
-        writer.new }
+    ensures { DoesReport live.now reports.Live result live.now (K.taken sink.old)
+        (K.taken sink.new) (K.faults sink.old) (K.faults sink.new) writer.old writer.new }
 {
-    let failed = everybody(collection.history().n());
-    put_plan_for(alloc, collection, sink, writer, &failed)
+    let failed = everybody(live.kept().history().n());
+    put_plan_for(alloc, live, sink, writer, &failed)
+}
+
+/// Writes a plan for these failed processes, and has each process go on from its line.
+fn recover_by<K: Sink>(
+    live: &mut LiveCollection,
+    sink: &mut K,
+    writer: &mut RecordWriter,
+    failed: &ProcSet,
+    plan: Plan,
+    replays: Vec<MsgName>,
+) -> Result<Outcome, Stop>
+    requires plan { IsPlanToGoBack live.old.kept failed.now plan }
+    requires replays { replays.items ≡ plan.replays.items }
+    ensures { DoesReport live.old (reports.Recover failed.now) result live.new (K.taken sink.old)
+        (K.taken sink.new) (K.faults sink.old) (K.faults sink.new) writer.old writer.new }
+{
+    let mut plan = plan;
+    live.bring_names_back(failed, &mut plan);
+    let put = put_plan_records(sink, writer, b"recovered", live, &plan);
+    live.go_on(&plan.line, replays);
+    outcome_if_written(put, Outcome::Done)
 }
 
 /// Plans for these failed processes, writes the plan, and has each process go on from its line.
 #[inline(never)]
 fn recover<K: Sink>(
     alloc: Global,
-    collection: &mut Collection,
+    live: &mut LiveCollection,
     sink: &mut K,
     writer: &mut RecordWriter,
     failed: &ProcSet,
 ) -> Result<Outcome, Stop>
-    ensures { DoesReport collection.old (reports.Recover failed.now) result collection.new
-        (K.taken sink.old) (K.taken sink.new) (K.faults sink.old) (K.faults sink.new) writer.old
-        writer.new }
+    ensures { DoesReport live.old (reports.Recover failed.now) result live.new (K.taken sink.old)
+        (K.taken sink.new) (K.faults sink.old) (K.faults sink.new) writer.old writer.new }
 {
-    match collection.plan(alloc, failed) {
-        Ok(plan) => {
-            let put = put_plan_records(sink, writer, b"recovered", collection.history(), &plan);
-            collection.go_back(plan);
+    match live.kept().plan(alloc, failed) {
+        Ok(plan) => match Vec::from_slice(alloc, plan.replays.as_slice()) {
+            Ok(replays) => recover_by(live, sink, writer, failed, plan, replays),
+            Err(_) => Err(Stop::Fault(ReadError::OutOfMemory)),
+        },
+        Err(error) => tell(sink, writer, Err(error)),
+    }
+}
+
+/// Lets go what stands before the line where every process fails, and writes what was let go of
+/// each process in all.
+#[inline(never)]
+fn forget<K: Sink>(
+    alloc: Global,
+    live: &mut LiveCollection,
+    sink: &mut K,
+    writer: &mut RecordWriter,
+) -> Result<Outcome, Stop>
+    ensures { DoesReport live.old reports.Forget result live.new (K.taken sink.old)
+        (K.taken sink.new) (K.faults sink.old) (K.faults sink.new) writer.old writer.new }
+{
+    match live.forget(alloc) {
+        Ok(()) => {
+            let n = live.kept().history().n();
+            let put = put_let_go(sink, writer, n, live.floor(), None);
             outcome_if_written(put, Outcome::Done)
         }
-        Err(error) => tell(sink, writer, Err(error)),
+        Err(ForgetError::OutOfMemory) => Err(Stop::Fault(ReadError::OutOfMemory)),
+        Err(error) => {
+            let put = put_refusal(sink, writer, refusal_number(error));
+            outcome_if_written(put, Outcome::Refused)
+        }
     }
 }
 
@@ -196,13 +247,13 @@ fn recover<K: Sink>(
 /// Memory is asked for before anything is changed or written.
 pub(crate) fn answer_report<K: Sink>(
     alloc: Global,
-    collection: &mut Collection,
+    live: &mut LiveCollection,
     sink: &mut K,
     writer: &mut RecordWriter,
     report: &ReportRef<'_>,
 ) -> Result<Outcome, Stop>
-    requires { IsReportInRange (length collection.old.history) (report_of_ref report.now) }
-    ensures { DoesReport collection.old (report_of_ref report.now) result collection.new
+    requires { IsReportInRange (length live.old.kept.history) (report_of_ref report.now) }
+    ensures { DoesReport live.old (report_of_ref report.now) result live.new
         (K.taken sink.old) (K.taken sink.new) (K.faults sink.old) (K.faults sink.new) writer.old
         writer.new }
 {
@@ -212,19 +263,19 @@ pub(crate) fn answer_report<K: Sink>(
             incarnation,
             to,
             body,
-        } => tell(sink, writer, collection.send(*by, *incarnation, *to, body)),
+        } => tell(sink, writer, live.send(*by, *incarnation, *to, body)),
         ReportRef::Receive {
             by,
             incarnation,
             message,
-        } => tell(sink, writer, collection.receive(*by, *incarnation, message)),
+        } => tell(sink, writer, live.receive(*by, *incarnation, message)),
         ReportRef::Check {
             by,
             incarnation,
             state,
             round,
         } => {
-            let answer = collection.check(alloc, *by, *incarnation, state, *round);
+            let answer = live.check(alloc, *by, *incarnation, state, *round);
             tell(sink, writer, answer)
         }
         ReportRef::Mark {
@@ -232,18 +283,15 @@ pub(crate) fn answer_report<K: Sink>(
             incarnation,
             from,
             round,
-        } => tell(
-            sink,
-            writer,
-            collection.mark(*by, *incarnation, *from, *round),
-        ),
-        ReportRef::Damage { by, check } => tell(sink, writer, collection.damage(*by, *check)),
-        ReportRef::Bar { by, check } => tell(sink, writer, collection.bar(*by, *check)),
-        ReportRef::Plan(failed) => put_plan_for(alloc, collection, sink, writer, failed),
-        ReportRef::Live => put_live_plan(alloc, collection, sink, writer),
-        ReportRef::Recover(failed) => recover(alloc, collection, sink, writer, failed),
-        ReportRef::History => put_collected(collection, sink, writer),
-        ReportRef::Bundle(failed) => put_bundle(alloc, collection, sink, writer, failed),
+        } => tell(sink, writer, live.mark(*by, *incarnation, *from, *round)),
+        ReportRef::Damage { by, check } => tell(sink, writer, live.damage(*by, *check)),
+        ReportRef::Bar { by, check } => tell(sink, writer, live.bar(*by, *check)),
+        ReportRef::Plan(failed) => put_plan_for(alloc, live, sink, writer, failed),
+        ReportRef::Live => put_live_plan(alloc, live, sink, writer),
+        ReportRef::Recover(failed) => recover(alloc, live, sink, writer, failed),
+        ReportRef::Forget => forget(alloc, live, sink, writer),
+        ReportRef::History => put_collected(live, sink, writer),
+        ReportRef::Bundle(failed) => put_bundle(alloc, live, sink, writer, failed),
         ReportRef::Refused(code) => {
             let put = put_refusal(sink, writer, *code);
             outcome_if_written(put, Outcome::Refused)

@@ -250,6 +250,17 @@ pub(crate) fn live_report(row: &FieldRow<'_>) -> Result<KeptReport, ReadError>
     Ok(KeptReport::Live)
 }
 
+/// The report of a `forget` record, which has no other field.
+#[inline(never)]
+#[tactic(auto, unfolding(line_fields::specs::Shapes::alone))]
+pub(crate) fn forget_report(row: &FieldRow<'_>) -> Result<KeptReport, ReadError>
+    ensures { (bytes : List ℕ) → Gives (λ kept. report_with_bytes kept bytes) result
+        (alone Report.Forget row.now) }
+{
+    want(row.len() == 1, Fault::BadRecord)?;
+    Ok(KeptReport::Forget)
+}
+
 /// The report of a `history` record, which has no other field.
 #[inline(never)]
 #[tactic(auto, unfolding(line_fields::specs::Shapes::alone))]

@@ -11,6 +11,7 @@ ghost use Rattle.line_collect.specs.Answers.{AnswersReport, Given, Refused};
 ghost use Rattle.line_collect.specs.Collecting.{CollectAnswer, Faulted, HearsReport, Replied};
 ghost use Rattle.line_collect.specs.Collecting.{collect_rules};
 ghost use Rattle.line_collect.specs.Collections.{CollectionView, IsPlanOf, gone_back};
+ghost use Rattle.line_collect.specs.Lives.{LiveCollectionView};
 ghost use Rattle.line_collect.specs.Orders.{AnswersUntilRecovery, TakesAll, events_by};
 ghost use Rattle.line_collect.specs.Recoveries.{IsRecoveredLine};
 ghost use Rattle.line_plan.specs.declared.plans.Plan.{Plan};
@@ -24,16 +25,16 @@ ghost use Rattle.line_tape.specs.Line.{IsConsistent};
 /// A record that is answered by a fault, by `OutOfMemory` or by a refusal changes nothing: what was
 /// collected is what there was, or there is still nothing.
 pub fn faults_and_refusals_change_nothing()
-    ensures faults { (old new : Option CollectionView) (one : Result Record Fault)
+    ensures faults { (old new : Option LiveCollectionView) (one : Result Record Fault)
         (error : ReadError) → HearsReport old one (Faulted error) new → new ≡ old }
-    ensures refusals { (old new : Option CollectionView) (one : Result Record Fault) (code : ℕ)
+    ensures refusals { (old new : Option LiveCollectionView) (one : Result Record Fault) (code : ℕ)
         → HearsReport old one (Replied (Refused code)) new → new ≡ old }
 {}
 
 /// However an input is cut into pieces, its answers are the same: what two pieces may be answered,
 /// one after the other, is what they may be answered as one.
 pub fn reports_in_pieces_are_answered_alike()
-    ensures { (old new : Standing (Option CollectionView)) (bytes more : List ℕ)
+    ensures { (old new : Standing (Option LiveCollectionView)) (bytes more : List ℕ)
         (answers : List CollectAnswer) → Serves collect_rules old (bytes ++ more) answers new
         ↔ ServesBoth collect_rules old bytes more answers new }
 {}

@@ -29,7 +29,8 @@ pub use laws::{
 pub use line_conversations::{MOST_LINE, Outcome, ServeError};
 pub use live_collections::LiveCollection;
 pub use live_laws::{
-    forgets_leave_what_is_left, live_collections_answer_as_all, live_plans_are_of_all,
+    forgets_leave_what_is_left, live_answers_are_of_all, live_collections_answer_as_all,
+    live_plans_are_of_all,
 };
 pub use readers::ReportReader;
 pub use refusals::CollectError;

@@ -1,19 +1,29 @@
 //! What was collected of reports, where what is never needed again is let go.
 
-ghost use Rattle.std.specs.Prelude.{◌≡◌, ◌≢◌, ◌<◌, ◌↔◌, ◌⊎◌, IfErr, IfOk, IsErrOf, IsOk, length};
+ghost use Rattle.std.specs.Prelude.{◌≡◌, ◌≢◌, ◌<◌, ◌+◌, ◌↔◌, ◌⊎◌, IfErr, IfOk, IsErrOf, IsOk};
+ghost use Rattle.std.specs.Prelude.{length, max};
 ghost use Rattle.line_names.specs.declared.limits.TheConstants.{MOST_PROCESSES};
-ghost use Rattle.line_collect.specs.Collections.{HasSpentProcess};
+ghost use Rattle.line_collect.specs.Collections.{HasSpentProcess, IsPlanToGoBack, gone_back};
 ghost use Rattle.line_collect.specs.declared.reports.Report.TheVariants as reports;
 ghost use Rattle.line_collect.specs.Lives.{ForgetsReports, IsForgetSpent, IsLivePlan, RecoversLive};
-ghost use Rattle.line_collect.specs.Lives.{TakesLiveReport, nothing_live};
+ghost use Rattle.line_collect.specs.Lives.{TakesLiveReport, keeping, nothing_live};
+ghost use Rattle.line_cuts.specs.Cuts.{floor_check, lost_checks};
+ghost use Rattle.line_lives.specs.Lives.{whole_plan};
+ghost use Rattle.line_tape.specs.Front.{HasChoice};
+ghost use Rattle.line_tape.specs.History.{tape_at};
+ghost use Rattle.line_tape.specs.Line.{IsConsistent, IsLine};
+ghost use Rattle.line_tape.specs.Restart.{HaveFurther};
+ghost use Rattle.line_tape.specs.Transit.{in_transit};
 
 use crate::collections::Collection;
 use crate::refusals::CollectError;
 use crate::tellings::Told;
-use crate::whole_names::{bring_plan_back, kept_check, kept_name, whole_check, whole_name};
+use crate::whole_names::{
+    bring_names_back, bring_plan_back, kept_check, kept_name, told_check, whole_check, whole_name,
+};
 use line_cuts::{OwnedFloor, whole_floor};
 use line_live::ForgetError;
-use line_names::{MOST_PROCESSES, MsgName, ProcId, ProcSet};
+use line_names::{Choice, Line, MOST_PROCESSES, MsgName, ProcId, ProcSet};
 use line_plan::Plan;
 use line_tape::CountError;
 use std::alloc::Global;
@@ -205,6 +215,37 @@ impl LiveCollection {
         let mut plan = self.kept.plan(alloc, failed)?;
         bring_plan_back(&self.floor, &mut plan);
         Ok(plan)
+    }
+
+    /// The index in the whole of a check that a line of what is kept goes back to.
+    pub(crate) fn told_check(&self, p: ProcId, check: u32) -> u32
+        requires { HasChoice (tape_at self.now.kept.history p) (Choice.Check check) }
+        ensures { result
+            ≡ max (check + lost_checks self.now.floor p) (floor_check self.now.floor p) }
+    {
+        let _n = self.kept.history().n();
+        told_check(&self.floor, p, check)
+    }
+
+    /// Brings a plan of what is kept back, in its place, but for its line.
+    pub(crate) fn bring_names_back(&self, failed: &ProcSet, plan: &mut Plan)
+        requires { IsPlanToGoBack self.now.kept failed.now plan.old }
+        ensures { plan.new ≡ record (whole_plan self.now.floor plan.old) { line = plan.old.line } }
+    {
+        let _n = self.kept.history().n();
+        bring_names_back(&self.floor, plan);
+    }
+
+    /// Has each process go on from its choice of a line of what is kept, at which these messages of
+    /// that are in transit.
+    pub(crate) fn go_on(&mut self, line: &Line, replays: Vec<MsgName>)
+        requires line { IsLine self.old.kept.history line.now }
+        requires consistent { IsConsistent self.old.kept.history line.now }
+        requires further { HaveFurther self.old.kept.history line.now }
+        requires replays { replays.items ≡ in_transit self.old.kept.history line.now }
+        ensures { self.new ≡ keeping self.old (gone_back self.old.kept line.now) }
+    {
+        self.kept.go_on(line, replays);
     }
 
     /// Plans where those of the set failed, and has each process go on from its choice of the line.

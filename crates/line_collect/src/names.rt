@@ -16,6 +16,7 @@ pub(crate) enum ReportName {
     Plan,
     Live,
     Recover,
+    Forget,
     History,
     Bundle,
 }
@@ -37,6 +38,7 @@ pub(crate) fn report_name_in(field: &[u8]) -> Option<ReportName>
         b"plan" => Some(ReportName::Plan),
         b"live" => Some(ReportName::Live),
         b"recover" => Some(ReportName::Recover),
+        b"forget" => Some(ReportName::Forget),
         b"history" => Some(ReportName::History),
         b"bundle" => Some(ReportName::Bundle),
         _ => None,

@@ -8,8 +8,8 @@ ghost use Rattle.line_collect.specs.Reports as spec;
 
 use crate::keeping::KeptReport;
 use crate::kinds::{
-    bar_report, bundle_report, check_report, damage_report, history_report, live_report,
-    mark_report, plan_report, receive_report, recover_report, send_report,
+    bar_report, bundle_report, check_report, damage_report, forget_report, history_report,
+    live_report, mark_report, plan_report, receive_report, recover_report, send_report,
 };
 use crate::names::{ReportName, report_name_in};
 use line_claims::{LAST_VERSION, most_in, plain, want};
@@ -66,6 +66,8 @@ pub enum Report {
     Live,
     /// These processes failed, and all go on from the latest line.
     Recover(ProcSet),
+    /// What stands before the line where every process fails is let go.
+    Forget,
     /// The history as it stands, as a text.
     History,
     /// A check text of the plan for these failed processes.
@@ -123,6 +125,8 @@ pub enum ReportRef<'a> {
     Live,
     /// These processes failed, and all go on from the latest line.
     Recover(&'a ProcSet),
+    /// What stands before the line where every process fails is let go.
+    Forget,
     /// The history as it stands, as a text.
     History,
     /// A check text of the plan for these failed processes.
@@ -173,6 +177,7 @@ pub(crate) fn report_in(
         ReportName::Plan => plan_report(n, row),
         ReportName::Live => live_report(row),
         ReportName::Recover => recover_report(n, row),
+        ReportName::Forget => forget_report(row),
         ReportName::History => history_report(row),
         ReportName::Bundle => bundle_report(n, row),
     }

@@ -1,12 +1,12 @@
 //! Names, checks and plans of what is kept, in the names and numbers of the whole. Nothing here
 //! takes memory.
 
-ghost use Rattle.std.specs.Prelude.{◌≡◌, ◌≤◌, ◌<◌, ◌+◌, ◌-◌, ◌^◌, ℕ, All, None, true, false};
-ghost use Rattle.std.specs.Prelude.{IfSome};
+ghost use Rattle.std.specs.Prelude.{◌≡◌, ◌≤◌, ◌<◌, ◌+◌, ◌-◌, ◌^◌, ℕ, max, All, None, true};
+ghost use Rattle.std.specs.Prelude.{false, IfSome};
 ghost use Rattle.line_collect.specs.Brought.{IsToldEntry, IsToldPlan};
 ghost use Rattle.line_collect.specs.Lives.{IsNumbered, kept_check};
-ghost use Rattle.line_cuts.specs.Cuts.{cut_name, is_left, lost_checks, whole_choice, whole_entry};
-ghost use Rattle.line_cuts.specs.Cuts.{whole_line, whole_name};
+ghost use Rattle.line_cuts.specs.Cuts.{cut_name, floor_check, is_left, lost_checks, whole_choice};
+ghost use Rattle.line_cuts.specs.Cuts.{whole_entry, whole_line, whole_name};
 ghost use Rattle.line_cuts.specs.Floors.{HasNumbers};
 ghost use Rattle.line_live.specs.Numbers.{IsFewChoice, mapped_in_place};
 ghost use Rattle.line_lives.specs.Lives.{whole_plan};
@@ -63,6 +63,15 @@ pub(crate) fn kept_check(floor: &OwnedFloor, p: ProcId, check: u32) -> u32
     check.saturating_sub(floor.checks_lost(p))
 }
 
+/// The index in the whole of a check that a line goes back to: none is before the floor.
+pub(crate) fn told_check(floor: &OwnedFloor, p: ProcId, check: u32) -> u32
+    requires numbers { HasNumbers floor.now }
+    requires few { check ≤ MOST_EVENTS }
+    ensures { result ≡ max (check + lost_checks floor.now p) (floor_check floor.now p) }
+{
+    whole_check(floor, p, check).max(floor.check(p))
+}
+
 /// A choice of a process in the whole.
 fn whole_choice(floor: &OwnedFloor, p: ProcId, choice: Choice) -> Choice
     requires numbers { HasNumbers floor.now }
@@ -70,7 +79,7 @@ fn whole_choice(floor: &OwnedFloor, p: ProcId, choice: Choice) -> Choice
     ensures { result ≡ whole_choice floor.now p choice }
 {
     match choice {
-        Choice::Check(check) => Choice::Check(whole_check(floor, p, check).max(floor.check(p))),
+        Choice::Check(check) => Choice::Check(told_check(floor, p, check)),
         Choice::Now => Choice::Now,
     }
 }
@@ -123,6 +132,16 @@ fn bring_names(floor: &OwnedFloor, names: &mut Vec<MsgName>)
         let name = whole_name(floor, names[i]);
         names[i] = name;
     }
+}
+
+/// Brings a plan back, in its place, but for its line.
+pub(crate) fn bring_names_back(floor: &OwnedFloor, plan: &mut Plan)
+    requires numbers { HasNumbers floor.now }
+    requires told { IsToldPlan floor.now plan.old }
+    ensures { plan.new ≡ record (whole_plan floor.now plan.old) { line = plan.old.line } }
+{
+    bring_entries(floor, &mut plan.certificate);
+    bring_names(floor, &mut plan.replays);
 }
 
 /// Brings a plan back, in its place.
