@@ -149,9 +149,9 @@ def faults_of_tables() -> Iterator[str]:
 
 def faults_of_reports() -> Iterator[str]:
     """Each number that the table of docs/REPORTS.md lacks, or has and the code does not."""
-    # That there is no such process is the refusal of another error.
+    # That there is no such process is the refusal of another error, and so is want of numbers.
     of_code = {it.number for it in refusals() if it.error == "CollectError"}
-    want = of_code - {0} | {numbers()["NoSuchProcess"]}
+    want = of_code - {0} | {numbers()[name] for name in ("NoSuchProcess", "NoMoreNumbers")}
     if want != set(reported()):
         yield f"docs/REPORTS.md: {sorted(want ^ set(reported()))} are of it, or of the code, alone"
 

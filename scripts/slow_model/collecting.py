@@ -7,7 +7,7 @@ from .histories import Check, Event, Mark, Name, Recv, Send
 from .planning import Computation
 from .service import Service
 from .texts import (
-    MOST_BODY, MOST_EVENTS, MOST_STATE, NAMES, Records, Refusal, fields_of, first_record,
+    MOST_BODY, MOST_STATE, NAMES, Records, Refusal, fields_of, first_record,
     hexadecimal, incarnation, number, refuse, round_number, round_or_none, want,
 )
 
@@ -22,6 +22,7 @@ READERS: dict[str, list[Callable[[str], Any]]] = {
     "damage": [number, number],
     "bar": [number, number],
     "live": [],
+    "forget": [],
     "history": [],
 }
 OF_FAILED = ["plan", "recover", "bundle"]  # with any number of processes
@@ -38,14 +39,16 @@ class Collection(Computation):
 
     def room(self, p: int) -> None:
         """Refuses where a tape is full."""
-        refuse(3, len(self.history.tapes[p]) >= MOST_EVENTS)
+        refuse(3, self.has_no_room(p, 1))
 
     def present(self, p: int, inc: int) -> None:
         """Refuses what a process did under another incarnation than its present one."""
         refuse(STALE_REPORT, inc != self.history.incarnations[p])
 
     def can_be(self, message: Name) -> bool:
-        """Whether a sender sent a message, or can send it still."""
+        """Whether a sender sent a message that is kept, or can send it still."""
+        if message.number < self.floors[message.sender].sends:
+            return False
         names = [name for name, _ in self.history.sent(message.sender)]
         if message.number < len(names):
             return message == names[message.number]
@@ -90,6 +93,10 @@ class Collection(Computation):
     def recover(self, *failed: int) -> Records:
         """Goes on from the line that is planned for these failed processes."""
         return self.restarted(failed).records
+
+    def forget(self) -> Records:
+        """Lets go what stands before the line where every process fails."""
+        return [("forgot", None), *self.let_go(self.live_line())]
 
 
 class Collecting(Service):

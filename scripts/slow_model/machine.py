@@ -4,12 +4,10 @@ from collections.abc import Sequence
 from typing import NamedTuple
 
 from .claims import mark_records
-from .floors import MOST_LOST, floors_at, kept_marks, kept_tape
+from .floors import kept_marks
 from .histories import Check, Item, Line, Mark, Marker, Name, Recv, Send
 from .planning import Computation
-from .texts import (
-    MOST_BODY, MOST_EVENTS, MOST_ROUND, MOST_STATE, OF_FORGET, Records, refuse,
-)
+from .texts import MOST_BODY, MOST_ROUND, MOST_STATE, OF_FORGET, Records, refuse
 
 
 class Round(NamedTuple):
@@ -39,14 +37,6 @@ class World(Computation):
         """The greatest round on the tapes where it is not completed, or none."""
         newest = self.history.newest_round()
         return newest if newest and not self.history.is_completed(newest, self.is_fifo) else None
-
-    def has_no_room(self, p: int, events: int) -> bool:
-        """Whether the tape of a process, as far as it is kept, lacks room for so many events."""
-        tape = self.history.tapes[p]
-        if len(tape) + events > MOST_EVENTS:
-            begins = self.history.floor(p)
-            tape = kept_tape(tape, p, self.floors, self.last_gone, begins)
-        return len(tape) + events > MOST_EVENTS
 
     def add_check(self, p: int, state: bytes, number: int | None) -> int:
         """Adds a check and answers its index."""
@@ -165,18 +155,13 @@ class World(Computation):
         """Lets go what is before a listed round, or before the line where every process fails."""
         refuse(22, not self.is_fifo)
         refuse(20, self.open_round())
-        if number is None:
-            line, _, _ = self.history.plan(self.marks, range(self.n))
-        else:
-            line = self.safe_line(number)
-        floors = floors_at(self.history, line)
-        refuse(50, any(max(it.lost_checks, it.sends) > MOST_LOST for it in floors))
-        self.floors, self.last_gone = floors, self.begun
+        records = self.let_go(self.live_line() if number is None else self.safe_line(number))
+        self.last_gone = self.begun
         self.listed = [
             listed for listed in self.listed
-            if all(check >= floors[p].check for p, check in enumerate(listed.checks))
+            if all(check >= self.floors[p].check for p, check in enumerate(listed.checks))
         ]
-        return [("forgot", number), *(("floor", p, *floor) for p, floor in enumerate(floors))]
+        return [("forgot", number), *records]
 
     def safe_line(self, number: int) -> Line:
         """The checks of a listed round, all of which survive."""

@@ -18,6 +18,8 @@ from .texts import NOW, Record, Records, earliest_version, shown, written
 
 # How often a query stands among the reports, and a report that is late.
 QUERY, LATE = 25, 30
+# How often `forget` stands among the lines.
+FORGET = [6, 20, 60]
 ODD_REPORTS = [
     *ODD_LINES, b"reports", b"reports,1", b"reports,1,0", b"reports,3,2", b"reports,1,65",
     b"reports,2,257", b"reports,x,2", b"reports,1,x", b"reports,1,2", b"reports,2,2", b"reports,",
@@ -28,9 +30,13 @@ ODD_REPORTS = [
     b"check,0,0,,--", b"mark,0,0,1,0", b"mark,0,0,1,-", b"mark,0,0,1,65536", b"mark,0,0,1",
     b"damage,0,0", b"damage,0,now", b"bar,0,now", b"bar,0,0,0", b"begin,0,", b"turn,0,", b"rounds",
     b"answer", b"live,0", b"plan,", b"plan,-", b"recover,now", b"Reports,1,2", b"reports,1,2,fifo",
+    b"forget,1", b"forget,-",
 ]  # fmt: skip
 # Records that show all that is collected.
-SHOWING = [b"plan", b"plan,0", b"live", b"bundle,0", b"history", b"recover,1", b"history"]
+SHOWING = [
+    b"plan", b"plan,0", b"live", b"bundle,0", b"history", b"forget", b"history", b"bundle,0",
+    b"recover,1", b"history",
+]
 
 
 def report_of(p: int, incarnation: int, event: Event) -> Record:
@@ -195,6 +201,17 @@ class Input:
                 lines.append(odd_line(self.chance, self.lines, ODD_REPORTS))
             lines.append(line)
         return lines
+
+
+def with_forgets(chance: Random, lines: Sequence[bytes]) -> list[bytes]:
+    """The lines with `forget` at random places after the first."""
+    often = chance.choice(FORGET)
+    made = []
+    for line in lines:
+        made.append(line)
+        while one_in(chance, often):
+            made.append(b"forget")
+    return made
 
 
 def some_reports(chance: Random) -> bytes:

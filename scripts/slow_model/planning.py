@@ -4,9 +4,9 @@ from collections.abc import Sequence
 from typing import NamedTuple
 
 from .claims import Claim
-from .floors import kept_history, kept_marks
+from .floors import MOST_LOST, floors_at, kept_history, kept_marks, kept_tape
 from .histories import NO_FLOOR, History, Line, Marks, Name
-from .texts import MOST_INCARNATION, NOW, Records, refuse
+from .texts import MOST_EVENTS, MOST_INCARNATION, NOW, Records, refuse
 
 
 class Recovery(NamedTuple):
@@ -31,6 +31,14 @@ class Computation:
     def known(self, *processes: int) -> None:
         """Refuses a process that there is not."""
         refuse(1, any(p >= self.n for p in processes))
+
+    def has_no_room(self, p: int, events: int) -> bool:
+        """Whether the tape of a process, as far as it is kept, lacks room for so many events."""
+        tape = self.history.tapes[p]
+        if len(tape) + events > MOST_EVENTS:
+            begins = self.history.floor(p)
+            tape = kept_tape(tape, p, self.floors, self.last_gone, begins)
+        return len(tape) + events > MOST_EVENTS
 
     # Marks. The refusals stand in the order in which they are asked.
 
@@ -88,6 +96,20 @@ class Computation:
         self.history.restart(line)
         self.marks = Marks({(p, check) for p, check in self.marks.damaged if check <= line[p]})
         return recovery
+
+    # What is let go.
+
+    def live_line(self) -> Line:
+        """The line that all would go back to if every process failed."""
+        line, _, _ = self.history.plan(self.marks, range(self.n))
+        return line
+
+    def let_go(self, line: Line) -> Records:
+        """Lets go what stands before a line of checks, and tells what that is of each process."""
+        floors = floors_at(self.history, line)
+        refuse(50, any(max(it.lost_checks, it.sends) > MOST_LOST for it in floors))
+        self.floors = floors
+        return [("floor", p, *floor) for p, floor in enumerate(floors)]
 
     # Views.
 

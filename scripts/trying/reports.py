@@ -11,7 +11,10 @@ among them those that the machine of `recline run` gives for the script of the s
 program runs that script too. Some inputs have reports that are late by an incarnation, receipts of
 messages that were cut, and lines with faults; some are cut off at a random byte; some come in
 pieces, of which each must be answered before the next one comes. The line of each `live` must be
-consistent in what is reported later. Of M short inputs (1) every prefix is tried: each of its
+consistent in what is reported later. One input of each case comes once more with `forget` at random
+places: each answer must be the same as without, to the byte, but for the texts of what is kept, and
+each claim in these must be valid; what is refused for what was let go is left out without. Of M
+short inputs (1) every prefix is tried: each of its
 records has its answer, and what is left of the last one has a fault. With `--collect` only that
 command is tried, such as scripts/slow_collect. A case that differs is told, and its input kept in a
 file; the status is then 1.
@@ -30,9 +33,11 @@ from collections.abc import Sequence
 
 import command_lines
 import workspace
+from slow_model import claims
 from slow_model.collecting import Collecting
+from slow_model.histories import Floor
 from slow_model.made_conversations import some_pieces
-from slow_model.made_reports import Input, Reporting
+from slow_model.made_reports import Input, Reporting, with_forgets
 from slow_model.made_texts import one_in
 from slow_model.texts import NOW, Record, choice, earliest_version, written
 
@@ -60,6 +65,39 @@ def answers_of(lines: Sequence[bytes]) -> tuple[list[bytes], int]:
                 if not service.collection.history.is_consistent(live) or NOW in live:
                     raise AssertionError(f"the line of live does not stay consistent: {live}")
     return answers, service.status
+
+
+def is_of_gone(line: bytes, floors: Sequence[Floor]) -> bool:
+    """Whether a report is of what was let go, and so refused."""
+    kind, *rest = line.split(b",")
+    values = [int(it) for it in rest if it.isdigit()]
+    if kind == b"damage":
+        return values[1] <= floors[values[0]].check
+    if kind == b"bar":
+        return values[1] < floors[values[0]].check
+    return kind == b"recv" and values[4] < floors[values[2]].sends
+
+
+def first_other(lines: Sequence[bytes]) -> int | None:
+    """The place of the first line whose answer is another one where nothing is let go, or none.
+
+    There the slow model is not told what was refused for what was let go.
+    """
+    letting, keeping = Collecting(), Collecting()
+    for place, line in enumerate(lines):
+        answer = letting.take(line + b"\n")
+        collection = letting.collection
+        if line == b"forget":
+            continue
+        if collection and answer.startswith(b"refused") and is_of_gone(line, collection.floors):
+            continue
+        wanted = keeping.take(line + b"\n")
+        kind, _, _ = line.partition(b",")
+        if kind == b"bundle" and answer.startswith(b"history"):
+            wanted, answer = b"valid\n", claims.check(answer.removesuffix(b"\n"))[0]
+        if kind != b"history" and answer != wanted:
+            return place
+    return None
 
 
 def told_at_once(command: list[str], pieces: Sequence[bytes]) -> tuple[bytes, int]:
@@ -118,9 +156,20 @@ class Trial:
             output, _ = told_at_once(self.run, [script])
             if output != b"".join(player.output):
                 return f"`run` differs: its script is in {kept(script)}"
-        return self.try_input(Input(chance, player, True)) or self.try_input(
-            Input(chance, player, False)
+        late = Input(chance, player, False)
+        return (
+            self.try_input(Input(chance, player, True)) or self.try_input(late)
+            or self.try_forgets(late)
         )
+
+    def try_forgets(self, made: Input) -> str | None:
+        """Tries an input with `forget` at random places, and compares it with the same without."""
+        lines = with_forgets(made.chance, made.lines)
+        place = first_other(lines)
+        if place is not None:
+            text = b"\n".join(lines[:place + 1]) + b"\n"
+            return f"line {place + 1} differs without `forget`: the input is in {kept(text)}"
+        return self.compare([b"".join(line + b"\n" for line in lines)])
 
     def try_input(self, made: Input) -> str | None:
         """Tries an interleaving, plain, or cut off, in pieces or with faults."""
