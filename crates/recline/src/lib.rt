@@ -136,7 +136,8 @@ pub mod collect {
     pub use line_collect::{
         CollectError, Collection, LiveCollection, Report, Told, collect,
         cut_messages_are_not_received, faults_and_refusals_change_nothing,
-        histories_follow_each_process, live_collections_answer_as_all, live_lines_stay_consistent,
-        recovered_lines_stay_consistent, reports_in_pieces_are_answered_alike,
+        histories_follow_each_process, live_answers_are_of_all, live_collections_answer_as_all,
+        live_lines_stay_consistent, recovered_lines_stay_consistent,
+        reports_in_pieces_are_answered_alike,
     };
 }
