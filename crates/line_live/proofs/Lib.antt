@@ -8,7 +8,5 @@ pub mod FirstFloors
 pub mod FewNumbers
 pub mod WholeLives
 pub mod LiveRuns
-pub mod HeldFloors
-pub mod HeldForgets
 pub mod LiveSteps
 pub mod ResumedLemmas

@@ -3,7 +3,6 @@
 #![tactic(auto)]
 
 mod forgets;
-mod held;
 mod kept_steps;
 mod laws;
 mod life_laws;
