@@ -64,7 +64,7 @@ module _ (floor : Floor) (none : LetsNothingGo floor) where
       ∙ ap (λ v. let p : Plan = record plan { certificate = v; replays = mapped_in_place (whole_name floor) plan.replays } in p) (mapped_same (whole_entry floor) plan.certificate (map_none (whole_entry floor) entry_none plan.certificate.items))
       ∙ ap (λ v. let p : Plan = record plan { replays = v } in p) (mapped_same (whole_name floor) plan.replays (map_none (whole_name floor) name_none plan.replays.items))
 
-  pub reply_none : (reply : Reply) → whole_reply floor reply ≡ reply
+  reply_none : (reply : Reply) → whole_reply floor reply ≡ reply
   reply_none (Sent m) = ap (λ (n : MsgName). Sent n) (name_none m)
   reply_none (Took m forced) = ap (λ (n : MsgName). Took n forced) (name_none m)
   reply_none (Marked round forced) = refl

@@ -1,6 +1,5 @@
 //! Steps that are asked in the names and numbers of the whole, and answered by what is kept.
-ghost use Rattle.std.specs.Prelude.{◌≡◌, ◌≢◌, ◌-◌, None, Some, false, true, IfErr, IfOk, IsErrOf};
-ghost use Rattle.std.specs.Prelude.{length, unwrap_or};
+ghost use Rattle.std.specs.Prelude.{◌≡◌, ◌≢◌, ◌-◌, None, Some, IfErr, IfOk, IsErrOf, length};
 ghost use Rattle.line_steps.specs.declared.modes.Mode.TheVariants.{Fifo};
 ghost use Rattle.line_steps.specs.declared.steps.Step.TheVariants.{Bar, Damage};
 ghost use Rattle.line_steps.specs.Shown.{step_of_ref, HasShortBody};
@@ -8,10 +7,8 @@ ghost use Rattle.line_world.specs.declared.replies.Answer.TheVariants.{Done, Ref
 ghost use Rattle.line_world.specs.Refusals.{refusal_of};
 ghost use Rattle.line_cuts.specs.Cuts.{lost_checks};
 ghost use Rattle.line_cuts.specs.Floors.{HasNumbers};
-ghost use Rattle.line_lives.specs.Lives.{cut_step, whole_reply};
-ghost use Rattle.line_live.specs.Lived.{LetsNothingGo};
+ghost use Rattle.line_lives.specs.Lives.{cut_step};
 ghost use Rattle.line_live.specs.Lives.{floor_refusal, TakesLive};
-ghost use Rattle.line_live.specs.Numbers.{IsFewReply};
 
 use crate::whole_names::whole_reply;
 use line_cuts::OwnedFloor;
@@ -49,7 +46,6 @@ fn barred_check(floor: &OwnedFloor, at: ProcId, check: u32) -> Result<u32, StepE
 }
 
 /// A step as what is kept is asked to do it, or its refusal for what was let go.
-#[inline(never)]
 fn cut_step<'a>(floor: &OwnedFloor, step: &StepRef<'a>) -> Result<StepRef<'a>, StepError>
     requires short { HasShortBody step.now }
     ensures step { IfOk result (λ cut.
@@ -98,64 +94,17 @@ fn cut_step<'a>(floor: &OwnedFloor, step: &StepRef<'a>) -> Result<StepRef<'a>, S
     }
 }
 
-/// What a world that is kept is asked in place of a step, where something was let go, or the step's
-/// refusal for what was let go.
-#[inline(always)]
-fn asked_instead<'a>(
-    forgot: bool,
-    floor: &OwnedFloor,
-    step: &StepRef<'a>,
-) -> Result<Option<StepRef<'a>>, StepError>
-    requires short { HasShortBody step.now }
-    requires none { forgot ≡ false → LetsNothingGo floor.now }
-    ensures step { IfOk result (λ cut.
-        step_of_ref (unwrap_or cut step.now) ≡ cut_step floor.now (step_of_ref step.now)) }
-    ensures short { IfOk result (λ cut. HasShortBody (unwrap_or cut step.now)) }
-    ensures spared { IfOk result (λ _. floor_refusal floor.now (step_of_ref step.now) ≡ None) }
-    ensures refused { IfErr result
-        (λ e. floor_refusal floor.now (step_of_ref step.now) ≡ Some e) }
-    ensures memory { IfErr result (λ e. e ≢ StepError.OutOfMemory) }
-{
-    if !forgot {
-        return Ok(None);
-    }
-    match cut_step(floor, step) {
-        Ok(cut) => Ok(Some(cut)),
-        Err(refusal) => Err(refusal),
-    }
-}
-
-/// The reply of a world that is kept, in the names and numbers of the whole.
-#[inline(always)]
-fn brought_back(forgot: bool, floor: &OwnedFloor, reply: Reply) -> Reply
-    requires numbers { HasNumbers floor.now }
-    requires none { forgot ≡ false → LetsNothingGo floor.now }
-    requires few { forgot ≡ true → IsFewReply reply }
-    ensures { result ≡ whole_reply floor.now reply }
-{
-    if forgot {
-        whole_reply(floor, reply)
-    } else {
-        reply
-    }
-}
-
 /// Has a world that is kept take a step, and brings its reply back.
-///
-/// The world is asked at this place alone, whether something was let go or not, so that a caller of
-/// steps has the world's code where it calls.
-#[inline(always)]
+#[inline(never)]
 pub(crate) fn step_kept(
     alloc: Global,
     world: &mut World,
     floor: &OwnedFloor,
-    forgot: bool,
     step: &StepRef<'_>,
 ) -> Result<Reply, StepError>
     requires short { HasShortBody step.now }
+    requires fifo { world.old.mode ≡ Fifo }
     requires numbers { HasNumbers floor.now }
-    requires none { forgot ≡ false → LetsNothingGo floor.now }
-    requires fifo { forgot ≡ true → world.old.mode ≡ Fifo }
     ensures done { IfOk result (λ reply.
         TakesLive (record { floor = floor.now; kept = world.old }) (step_of_ref step.now)
         (Done reply) (record { floor = floor.now; kept = world.new })) }
@@ -172,9 +121,9 @@ pub(crate) fn step_kept(
 {
     let history = world.history();
     let _n = history.n();
-    match asked_instead(forgot, floor, step) {
-        Ok(cut) => match world.step_lent(alloc, cut.as_ref().unwrap_or(step)) {
-            Ok(reply) => Ok(brought_back(forgot, floor, reply)),
+    match cut_step(floor, step) {
+        Ok(cut) => match world.step_lent(alloc, &cut) {
+            Ok(reply) => Ok(whole_reply(floor, reply)),
             Err(refusal) => Err(refusal),
         },
         Err(refusal) => Err(refusal),
@@ -215,7 +164,7 @@ fn step_cut(
     }
 }
 
-/// Has a world that is kept take a step, where something was let go.
+/// Has a world that is kept take a step, as `step_kept` does.
 #[inline(never)]
 pub(crate) fn step_of_kept(
     alloc: Global,

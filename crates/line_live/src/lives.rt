@@ -232,7 +232,10 @@ impl Live {
         ensures unrefused { IsErrOf result StepError.OutOfMemory
             → refusal_of self.old.kept (cut_step self.old.floor (step_of_ref step.now)) ≡ None }
     {
-        step_kept(alloc, &mut self.world, &self.floor, self.forgot, step)
+        if self.forgot {
+            return step_kept(alloc, &mut self.world, &self.floor, step);
+        }
+        self.world.step_lent(alloc, step)
     }
 
     /// Takes steps, one after another, and answers each.

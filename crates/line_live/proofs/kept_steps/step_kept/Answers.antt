@@ -1,9 +1,7 @@
 -- The step is asked of what is kept, and its reply, which has few numbers, is brought back.
-use Rattle.std.proofs.Common.{◌≡◌, Bor, Option, Some, None, refl, sym, ap, ◌∙◌, subst}
-use Rattle.std.specs.Option.{option_copied, unwrap_or}
+use Rattle.std.proofs.Common.{sym, subst}
 use Rattle.line_tape.specs.History.{IsHistory}
 use Rattle.line_steps.specs.declared.steps.Step.{Step}
-use Rattle.line_steps.specs.declared.steps.StepRef.{StepRef}
 use Rattle.line_steps.specs.Shown.{step_of_ref}
 use Rattle.line_world.specs.declared.replies.Answer.TheVariants.{Done, Refused}
 use Rattle.line_world.specs.declared.replies.Reply.{Reply}
@@ -17,16 +15,11 @@ use Rattle.line_live.proofs.LiveSteps.{living, takes_cut}
 use Rattle.line_live.proofs.ShapedMachines.{step_long}
 use Rattle.line_live.proofs.kept_steps.step_kept.Goals as goal
 
--- what is lent of a value or else of another one is that value or the other one
-lent_or : (lent : Option (Bor StepRef)) (other : Bor StepRef) → (unwrap_or lent other).now ≡ unwrap_or (option_copied lent) other.now
-lent_or (Some value) other = refl
-lent_or None other = refl
-
-pub brought_back-requires-clause-few : goal.brought_back-requires-clause-few
-brought_back-requires-clause-few c = λ forgot.
+pub whole_reply-requires-clause-few : goal.whole_reply-requires-clause-few
+whole_reply-requires-clause-few c =
     let old : Machine = c.args.world.now in
     let limits : IsHistory old.history = subst IsHistory c.history-history.ensures.value c.n-n.ensures.limits in
-    reply_few old limits (c.requires.fifo forgot) c.history-history.ensures.fit (step_of_ref c.unwrap_or.result.now) c.in-Ok-step_lent.reply c.step_lent.new.self c.in-Ok-step_lent.ensures.done.0 c.in-Ok-step_lent.ensures.done.1
+    reply_few old limits c.requires.fifo c.history-history.ensures.fit (step_of_ref c.in-Ok.cut) c.in-Ok-step_lent.reply c.step_lent.new.self c.in-Ok-step_lent.ensures.done.0 c.in-Ok-step_lent.ensures.done.1
 
 pub returns-in-Ok-step_lent-clause-done : goal.returns-in-Ok-step_lent-clause-done
 returns-in-Ok-step_lent-clause-done c =
@@ -34,9 +27,8 @@ returns-in-Ok-step_lent-clause-done c =
     let new : Machine = c.step_lent.new.self in
     let floor : Floor = c.args.floor.now in
     let step : Step = step_of_ref c.args.step.now in
-    let asked : step_of_ref c.unwrap_or.result.now ≡ cut_step floor step = ap (λ (lent : StepRef). step_of_ref lent) (ap (λ (lent : Bor StepRef). lent.now) c.unwrap_or.ensures ∙ lent_or c.as_ref.result c.args.step ∙ ap (λ (cut : Option StepRef). unwrap_or cut c.args.step.now) c.as_ref.ensures.value) ∙ c.in-Ok.ensures.step in
-    let takes : Takes old (cut_step floor step) (Done c.in-Ok-step_lent.reply) new = subst (λ (s : Step). Takes old s (Done c.in-Ok-step_lent.reply) new) asked c.in-Ok-step_lent.ensures.done in
-    subst (λ (reply : Reply). TakesLive (living floor old) step (Done reply) (living floor new)) (sym c.brought_back.ensures) (takes_cut floor old new step (Done c.in-Ok-step_lent.reply) c.in-Ok.ensures.spared takes)
+    let takes : Takes old (cut_step floor step) (Done c.in-Ok-step_lent.reply) new = subst (λ (s : Step). Takes old s (Done c.in-Ok-step_lent.reply) new) c.in-Ok.ensures.step c.in-Ok-step_lent.ensures.done in
+    subst (λ (reply : Reply). TakesLive (living floor old) step (Done reply) (living floor new)) (sym c.whole_reply.ensures) (takes_cut floor old new step (Done c.in-Ok-step_lent.reply) c.in-Ok.ensures.spared takes)
 
 pub returns-in-Err-step_lent-clause-refused : goal.returns-in-Err-step_lent-clause-refused
 returns-in-Err-step_lent-clause-refused c = λ other.
@@ -44,12 +36,11 @@ returns-in-Err-step_lent-clause-refused c = λ other.
     let new : Machine = c.step_lent.new.self in
     let floor : Floor = c.args.floor.now in
     let step : Step = step_of_ref c.args.step.now in
-    let asked : step_of_ref c.unwrap_or.result.now ≡ cut_step floor step = ap (λ (lent : StepRef). step_of_ref lent) (ap (λ (lent : Bor StepRef). lent.now) c.unwrap_or.ensures ∙ lent_or c.as_ref.result c.args.step ∙ ap (λ (cut : Option StepRef). unwrap_or cut c.args.step.now) c.as_ref.ensures.value) ∙ c.in-Ok.ensures.step in
-    let takes : Takes old (cut_step floor step) (Refused c.in-Err-step_lent.refusal) new = subst (λ (s : Step). Takes old s (Refused c.in-Err-step_lent.refusal) new) asked (c.in-Err-step_lent.ensures.refused other) in
+    let takes : Takes old (cut_step floor step) (Refused c.in-Err-step_lent.refusal) new = subst (λ (s : Step). Takes old s (Refused c.in-Err-step_lent.refusal) new) c.in-Ok.ensures.step (c.in-Err-step_lent.ensures.refused other) in
     takes_cut floor old new step (Refused c.in-Err-step_lent.refusal) c.in-Ok.ensures.spared takes
 
 pub returns-in-Ok-step_lent-clause-count : goal.returns-in-Ok-step_lent-clause-count
-returns-in-Ok-step_lent-clause-count c = step_long c.args.world.now (step_of_ref c.unwrap_or.result.now) c.step_lent.result c.step_lent.new.self c.step_lent.ensures.done c.step_lent.ensures.refused c.step_lent.ensures.memory
+returns-in-Ok-step_lent-clause-count c = step_long c.args.world.now (step_of_ref c.in-Ok.cut) c.step_lent.result c.step_lent.new.self c.step_lent.ensures.done c.step_lent.ensures.refused c.step_lent.ensures.memory
 
 pub returns-in-Err-step_lent-clause-count : goal.returns-in-Err-step_lent-clause-count
-returns-in-Err-step_lent-clause-count c = step_long c.args.world.now (step_of_ref c.unwrap_or.result.now) c.step_lent.result c.step_lent.new.self c.step_lent.ensures.done c.step_lent.ensures.refused c.step_lent.ensures.memory
+returns-in-Err-step_lent-clause-count c = step_long c.args.world.now (step_of_ref c.in-Ok.cut) c.step_lent.result c.step_lent.new.self c.step_lent.ensures.done c.step_lent.ensures.refused c.step_lent.ensures.memory
