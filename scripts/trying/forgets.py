@@ -20,13 +20,13 @@ import subprocess
 import tempfile
 from collections.abc import Iterator, Sequence
 
-import command_lines
 from pictures.texts import Reply, read_replies
 from slow_model import claims, scripts
 from slow_model.histories import NO_FLOOR, Floor
 from slow_model.machine import World
 from slow_model.made_scripts import DOMINOES, ROUNDS, TALK, Player
 from slow_model.texts import OF_FORGET, shown
+from trying import drawn
 
 MOST_SECONDS = 60
 MOST_PROCESSES = 5
@@ -251,17 +251,12 @@ def keep(case: int, processes: int, records: Sequence[str], why: Different) -> N
 
 def add_words(line: argparse.ArgumentParser) -> None:
     """Adds the words of this job to those that are read."""
-    line.add_argument("--cases", type=int, default=200, help="how many cases (200)")
-    line.add_argument("--seed", type=int, default=1, help="where the generator starts (1)")
-    line.add_argument("--program", help="the program, in place of the slow model")
-    line.add_argument("--counts", action="store_true", help="print how often each kind came")
+    drawn.add_case_words(line)
 
 
 def run(asked: argparse.Namespace) -> int:
     """Tries the cases, and answers the status."""
-    # The first call may have to build the program, which takes long and says so.
-    if asked.program and not command_lines.runs(asked.program):
-        print(f"{asked.program} does not run")
+    if not drawn.has_program(asked):
         return 1
     tried = Tried(asked.program)
     counts: collections.Counter[str] = collections.Counter()
@@ -273,8 +268,6 @@ def run(asked: argparse.Namespace) -> int:
         except Different as why:
             keep(case, player.n, records, why)
             return 1
-    if asked.counts:
-        for kind, times in sorted(counts.items()):
-            print(f"{times:8} {kind}")
+    drawn.print_counts(asked, counts)
     print(f"{asked.cases} cases: what lets go answers as what keeps everything")
     return 0

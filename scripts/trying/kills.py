@@ -23,7 +23,6 @@ import re
 import shlex
 import signal
 import subprocess
-import sys
 import tempfile
 import time
 from collections.abc import Sequence
@@ -31,6 +30,8 @@ from typing import NamedTuple
 
 import command_lines
 import workspace
+from trying import drawn
+from trying.drawn import Failure
 
 TOP = workspace.ROOT
 LIVE = TOP / "examples" / "live"
@@ -38,14 +39,9 @@ HEAT = LIVE / "heat.py"
 PROGRAM = TOP / "recline"
 QUICK_RUNS, QUICK_SEED = 12, 1
 MOST_SECONDS = 300  # for one run
-SECONDS_OF_SILENCE = 10
 SUMMARY = re.compile(
     r"workers: ([\d,]+) kills?, ([\d,]+) recover(?:y|ies), ([\d,]+) turns? done again"
 )
-
-
-class Failure(Exception):
-    """A run that was not as it must be, and how."""
 
 
 class Rod(NamedTuple):
@@ -90,7 +86,7 @@ def loop(rod: Rod) -> list[str]:
     return [cell.hex() for cell in now]
 
 
-def drawn(seed: int, number: int) -> Run:
+def drawn_run(seed: int, number: int) -> Run:
     """The run of that number."""
     chance = random.Random(f"{seed} {number}")
     rod = chance.choice(RODS)
@@ -276,10 +272,7 @@ def conversed(service: Sequence[str]) -> None:
 
 def add_words(line: argparse.ArgumentParser) -> None:
     """Adds the words of this job to those that are read."""
-    line.add_argument("--runs", type=int, default=100, help="how many runs (100)")
-    line.add_argument("--seed", type=int, help="where they are drawn from (the time)")
-    line.add_argument("--from", type=int, default=0, dest="first", help="the first run (0)")
-    line.add_argument("--quick", action="store_true", help=f"{QUICK_RUNS} runs of a fixed seed")
+    drawn.add_run_words(line, QUICK_RUNS)
     line.add_argument(
         "--service",
         type=shlex.split,
@@ -292,30 +285,19 @@ def add_words(line: argparse.ArgumentParser) -> None:
     )
 
 
-def try_all(runs: Runs, asked: argparse.Namespace) -> bool:
-    """Does all runs; answers whether each was as it must be, and tells the first that was not."""
-    next_word = time.monotonic() + SECONDS_OF_SILENCE
-    for number in range(asked.first, asked.first + asked.runs):
-        run = drawn(asked.seed, number)
-        try:
-            runs.one(run)
-        except Failure as failure:
-            command = shlex.join([str(HEAT), *run.rod.words(), *run.options])
-            print(f"run {number} of seed {asked.seed}: {failure}\n{command}")
-            print(f"again: scripts/trial kills --seed {asked.seed} --from {number} --runs 1")
-            return False
-        if time.monotonic() >= next_word:
-            next_word = time.monotonic() + SECONDS_OF_SILENCE
-            print(f"trial kills: {runs.told()}", file=sys.stderr)
-    return True
+def try_one(runs: Runs, seed: int, number: int) -> None:
+    """Does the run of that number; where it is not as it must be, tells its command too."""
+    run = drawn_run(seed, number)
+    try:
+        runs.one(run)
+    except Failure as failure:
+        command = shlex.join([str(HEAT), *run.rod.words(), *run.options])
+        raise Failure(f"{failure}\n{command}") from failure
 
 
 def run(asked: argparse.Namespace) -> int:
     """Does all runs, and what is shown; answers the status."""
-    if asked.quick:
-        asked.runs, asked.seed = QUICK_RUNS, QUICK_SEED
-    if asked.seed is None:
-        asked.seed = int(time.time())
+    drawn.choose_runs(asked, QUICK_RUNS, QUICK_SEED)
     # The first call may have to build the program, which takes long and says so.
     if str(PROGRAM) in (asked.program, *asked.service):
         command_lines.runs(PROGRAM)
@@ -327,7 +309,7 @@ def run(asked: argparse.Namespace) -> int:
         except Failure as failure:
             print(failure)
             return 1
-        if not try_all(runs, asked):
+        if not drawn.try_runs("kills", asked, lambda it: try_one(runs, asked.seed, it), runs.told):
             return 1
         print(f"{runs.told()}: each has the bits of a run without failures and of a plain loop")
     return 0

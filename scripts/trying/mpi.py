@@ -31,6 +31,8 @@ from collections.abc import Sequence
 
 import command_lines
 import workspace
+from trying import drawn
+from trying.drawn import Failure
 
 TOP = workspace.ROOT
 CLIENT = TOP / "clients" / "mpi"
@@ -45,7 +47,6 @@ MPIRUN = ["mpirun", "--quiet", "--oversubscribe", "--allow-run-as-root"]
 LEFT_OUT = 77
 QUICK_RUNS, QUICK_SEED = 3, 1
 MOST_SECONDS = 300  # for one run
-SECONDS_OF_SILENCE = 10
 FREED = "MPI_Request_free of a receive is not supported: wait for it"
 DAMAGED = "is not what was sent"
 SHOWN = [
@@ -59,10 +60,6 @@ SUMMARY = re.compile(r"ranks: (\d+) failure")
 
 
 Names = collections.Counter[tuple[int, ...]]
-
-
-class Failure(Exception):
-    """What was not as it must be."""
 
 
 def ran(words: Sequence[str], wanted: int = 0) -> str:
@@ -232,7 +229,7 @@ class Trial:
 
     def run(self, seed: int, number: int) -> None:
         """A run of the example, whose ranks are killed."""
-        run, options = self.folder / f"run-{number}", drawn(seed, number)
+        run, options = self.folder / f"run-{number}", options_of(seed, number)
         told = self.heat(*options, "--quiet", "--dir", str(run))
         self.counts["failures"] += int(SUMMARY.findall(told)[0])
         self.balance(int(options[options.index("--ranks") + 1]), run / "notes")
@@ -240,7 +237,7 @@ class Trial:
         self.counts["runs"] += 1
 
 
-def drawn(seed: int, number: int) -> list[str]:
+def options_of(seed: int, number: int) -> list[str]:
     """The options of the run of that number."""
     chance = random.Random(f"{seed} {number}")
     is_outside = chance.random() < 1 / 4
@@ -258,38 +255,16 @@ def drawn(seed: int, number: int) -> list[str]:
 
 def add_words(line: argparse.ArgumentParser) -> None:
     """Adds the words of this job to those that are read."""
-    line.add_argument("--runs", type=int, default=100, help="how many runs (100)")
-    line.add_argument("--seed", type=int, help="where they are drawn from (the time)")
-    line.add_argument("--from", type=int, default=0, dest="first", help="the first run (0)")
-    line.add_argument("--quick", action="store_true", help=f"{QUICK_RUNS} runs of a fixed seed")
+    drawn.add_run_words(line, QUICK_RUNS)
     line.add_argument("--planner", type=shlex.split, default=PLANNER,
                       metavar="COMMAND", help="what plans (recline collect)")
     line.add_argument("--program", default=str(PROGRAM), metavar="PATH",
                       help="what ./draw and ./explain run (./recline)")
 
 
-def try_all(trial: Trial, asked: argparse.Namespace) -> bool:
-    """Does all runs; answers whether each was as it must be, and tells the first that was not."""
-    next_word = time.monotonic() + SECONDS_OF_SILENCE
-    for number in range(asked.first, asked.first + asked.runs):
-        try:
-            trial.run(asked.seed, number)
-        except Failure as failure:
-            print(f"run {number} of seed {asked.seed}: {failure}")
-            print(f"again: scripts/trial mpi --seed {asked.seed} --from {number} --runs 1")
-            return False
-        if time.monotonic() >= next_word:
-            next_word = time.monotonic() + SECONDS_OF_SILENCE
-            print(f"trial mpi: {trial.counts['runs']} runs", file=sys.stderr)
-    return True
-
-
 def run(asked: argparse.Namespace) -> int:
     """Does all of it; answers the status."""
-    if asked.quick:
-        asked.runs, asked.seed = QUICK_RUNS, QUICK_SEED
-    if asked.seed is None:
-        asked.seed = int(time.time())
+    drawn.choose_runs(asked, QUICK_RUNS, QUICK_SEED)
     try:
         ran([sys.executable, str(CLIENT / "tests" / "test_folder.py")])
     except Failure as failure:
@@ -315,9 +290,11 @@ def run(asked: argparse.Namespace) -> int:
         except Failure as failure:
             print(failure)
             return 1
-        if not try_all(trial, asked):
-            return 1
         counts = trial.counts
+        if not drawn.try_runs(
+            "mpi", asked, lambda it: trial.run(asked.seed, it), lambda: f"{counts['runs']} runs"
+        ):
+            return 1
         print(f"MPI: {counts['runs']:,} runs with {counts['failures']:,} failures have the bits of "
               f"a job without failures; {counts['messages']:,} messages, each noted once")
     return 0

@@ -21,10 +21,10 @@ import sys
 import tempfile
 from collections.abc import Sequence
 
-import command_lines
 import workspace
 from slow_model import scripts, service
 from slow_model.made_saves import Saving, lines_of, saving_player
+from trying import drawn
 
 MOST_SECONDS = 60
 LENGTHS = [10, 40, 120, 240]
@@ -129,17 +129,12 @@ def compare(tried: Tried, chance: random.Random, is_read: bool) -> list[str]:
 
 def add_words(line: argparse.ArgumentParser) -> None:
     """Adds the words of this job to those that are read."""
-    line.add_argument("--cases", type=int, default=200, help="how many cases (200)")
-    line.add_argument("--seed", type=int, default=1, help="where the generator starts (1)")
-    line.add_argument("--program", help="the program, in place of the slow model")
-    line.add_argument("--counts", action="store_true", help="print how often each kind came")
+    drawn.add_case_words(line)
 
 
 def run(asked: argparse.Namespace) -> int:
     """Tries the cases, and answers the status."""
-    # The first call may have to build the program, which takes long and says so.
-    if asked.program and not command_lines.runs(asked.program):
-        print(f"{asked.program} does not run")
+    if not drawn.has_program(asked):
         return 1
     counts: collections.Counter[str] = collections.Counter()
     with tempfile.TemporaryDirectory(prefix="recline-saves-") as folder:
@@ -151,8 +146,6 @@ def run(asked: argparse.Namespace) -> int:
             except Different as why:
                 print(f"case {case} of seed {asked.seed} differs: {why}")
                 return 1
-    if asked.counts:
-        for kind, times in sorted(counts.items()):
-            print(f"{times:8} {kind}")
+    drawn.print_counts(asked, counts)
     print(f"{asked.cases} cases: a machine that was saved goes on as if it had not been")
     return 0
