@@ -101,15 +101,7 @@ pub fn put_left_claim<K: Sink>(
     if is_above(floor) {
         return put_check_text_from(sink, writer, &floor_ref(floor), history, claim);
     }
-    put_check_text(
-        sink,
-        writer,
-        history,
-        claim.marks,
-        claim.failed,
-        claim.line,
-        claim.certificate,
-    )
+    put_check_text(sink, writer, history, claim)
 }
 
 /// Writes the history text of what a machine keeps.

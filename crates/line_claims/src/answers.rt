@@ -11,29 +11,15 @@ ghost use Rattle.line_claims.specs.declared.versions.TheConstants.{LAST_CHECK_VE
 ghost use Rattle.line_claims.specs.Records as spec;
 
 use crate::floors::FloorRef;
-use crate::judgements::{put_failed, put_line, put_passes};
+use crate::judgements::{ClaimRef, put_failed, put_line, put_passes};
 use crate::marks::put_marks;
 use crate::versions::ANSWER_VERSION;
 use crate::writers::{put_history, put_history_from};
 use line_check::{ReplayCursor, ReplayRef, next_replay};
 use line_devices::{DeviceFault, Sink};
 use line_fields::{Field, RecordWriter, put_ending, put_fields, put_numbers};
-use line_names::{Choice, Line, Passed, ProcId, ProcSet};
-use line_tape::{History, Marks};
-
-/// A claim on a history, lent: that this is the latest line, where these checks are damaged,
-/// processes are barred at these checks and these failed, and that this certificate shows it.
-#[derive(Clone, Copy)]
-pub struct ClaimRef<'a> {
-    /// The checks that are damaged, and those at which processes are barred.
-    pub marks: &'a Marks,
-    /// The processes that failed.
-    pub failed: &'a ProcSet,
-    /// The line.
-    pub line: &'a Line,
-    /// The entries of its certificate, in the order in which they are to be tested.
-    pub certificate: &'a [Passed],
-}
+use line_names::{Choice, Line, ProcId};
+use line_tape::History;
 
 // Writes `start,P,INC,HEX` of a process that goes on from its choice of the line.
 fn put_start<K: Sink>(

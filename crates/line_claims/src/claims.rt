@@ -313,26 +313,26 @@ fn take_damage(
     }
 }
 
-/// Takes the next record of a claim among `n` processes in a text of that version, which may be of
-/// that part or of one that may follow it, and answers the same of the record after it. The bytes
-/// of a message take the place of those of a list.
+/// Takes the next record of a claim in a text of that version, which may be of that part or of one
+/// that may follow it, and answers the same of the record after it. The bytes of a message take the
+/// place of those of a list.
 pub(crate) fn take_of_claim(
     version: u32,
-    n: u32,
     stage: ClaimStage,
     claim: &mut Claim,
     number: u64,
     row: &FieldRow<'_>,
     bytes: &mut Vec<u8>,
 ) -> Result<ClaimStage, TextError>
-    requires few { n ≤ MOST_PROCESSES }
-    requires whole { length claim.old.marks.damaged ≡ n }
+    requires few { length claim.old.marks.damaged ≤ MOST_PROCESSES }
     ensures exact { Goes result
-        (spec.claim_left stage version n (claims.claim_view claim.old) number)
-        (λ next. spec.claim_left next version n (claims.claim_view claim.new)
-        (number + 1)) row.now }
-    ensures whole { length claim.new.marks.damaged ≡ n }
+        (spec.claim_left stage version (length claim.old.marks.damaged)
+        (claims.claim_view claim.old) number)
+        (λ next. spec.claim_left next version (length claim.old.marks.damaged)
+        (claims.claim_view claim.new) (number + 1)) row.now }
+    ensures whole { length claim.new.marks.damaged ≡ length claim.old.marks.damaged }
 {
+    let n = claim.marks.processes() as u32;
     match stage {
         ClaimStage::Damage => take_damage(version, n, claim, number, row),
         ClaimStage::Bars => take_bar(version, n, claim, number, row),

@@ -17,6 +17,20 @@ use line_fields::{
 use line_names::{Choice, Line, MOST_PROCESSES, Passed, ProcId, ProcSet};
 use line_tape::{History, Marks};
 
+/// A claim on a history, lent: that this is the latest line, where these checks are damaged,
+/// processes are barred at these checks and these failed, and that this certificate shows it.
+#[derive(Clone, Copy)]
+pub struct ClaimRef<'a> {
+    /// The checks that are damaged, and those at which processes are barred.
+    pub marks: &'a Marks,
+    /// The processes that failed.
+    pub failed: &'a ProcSet,
+    /// The line.
+    pub line: &'a Line,
+    /// The entries of its certificate, in the order in which they are to be tested.
+    pub certificate: &'a [Passed],
+}
+
 /// Writes `failed,P,..`: the processes of a set, of the first `n`, in order.
 pub(crate) fn put_failed<K: Sink>(
     sink: &mut K,
@@ -142,10 +156,8 @@ fn version_of(history: &History, marks: &Marks) -> u32
     earliest_version(n)
 }
 
-/// Writes a check text after what a writer holds: a history, and the claim on it that these of its
-/// checks are damaged, its processes are barred so, these failed, and this is the line with its
-/// certificate. It is of version 2 where a process is barred or there are more than 64, and else of
-/// version 1.
+/// Writes a check text after what a writer holds: a history, and the claim on it. It is of version
+/// 2 where a process is barred or there are more than 64, and else of version 1.
 ///
 /// It asks for no memory, and fails only where the sink fails; then a prefix of what was held and
 /// of the check text is put. It asks once for a mark of each check.
@@ -153,30 +165,21 @@ pub fn put_check_text<K: Sink>(
     sink: &mut K,
     writer: &mut RecordWriter,
     history: &History,
-    marks: &Marks,
-    failed: &ProcSet,
-    line: &Line,
-    certificate: &[Passed],
+    claim: &ClaimRef<'_>,
 ) -> Result<(), DeviceFault>
     ensures { Outputs result (K.taken sink.old) (K.taken sink.new) (K.faults sink.old)
         (K.faults sink.new) writer.new
         (writer.old
         ++ records_text
         (spec.check_records history.now.processes
-        (record {
-          marks = spec.in_order history.now.processes marks.now;
-          failed = failed.now;
-          line = line.now;
-          certificate = certificate.now;
-          starts = [];
-          replays = [];
-        }))) }
+        (spec.line_claim (spec.in_order history.now.processes claim.now.marks.now)
+        claim.now.failed.now claim.now.line.now claim.now.certificate.now))) }
 {
-    let version = version_of(history, marks);
+    let version = version_of(history, claim.marks);
     put_history(sink, writer, version, history)?;
-    put_marks(sink, writer, history, marks)?;
-    put_failed(sink, writer, history.n(), failed)?;
-    put_line(sink, writer, line)?;
-    put_passes(sink, writer, certificate)?;
+    put_marks(sink, writer, history, claim.marks)?;
+    put_failed(sink, writer, history.n(), claim.failed)?;
+    put_line(sink, writer, claim.line)?;
+    put_passes(sink, writer, claim.certificate)?;
     put_numbers(sink, writer, b"end", &[])
 }

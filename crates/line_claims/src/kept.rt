@@ -6,7 +6,7 @@ ghost use Rattle.line_claims.specs.Ranges.{AreRoundsInRange, FitsMemory};
 ghost use Rattle.line_claims.specs.Records as spec;
 ghost use Rattle.line_claims.specs.Texts.{history_of_text};
 
-use crate::judgements::put_check_text;
+use crate::judgements::{ClaimRef, put_check_text};
 use crate::versions::earliest_version;
 use crate::writers::put_history;
 use line_devices::{MemSink, put_all};
@@ -69,15 +69,13 @@ pub fn write_check_text(
 {
     let mut writer = RecordWriter::with_room(alloc)?;
     let mut sink = MemSink::new(alloc, usize::MAX, None);
-    let Ok(()) = put_check_text(
-        &mut sink,
-        &mut writer,
-        history,
+    let claim = ClaimRef {
         marks,
         failed,
         line,
         certificate,
-    ) else {
+    };
+    let Ok(()) = put_check_text(&mut sink, &mut writer, history, &claim) else {
         return Err(AllocError);
     };
     match put_all(&mut sink, writer.text()) {

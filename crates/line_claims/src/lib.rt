@@ -31,12 +31,12 @@ mod texts;
 mod versions;
 mod writers;
 
-pub use answers::{ClaimRef, put_answer, put_answer_from, put_check_text_from};
+pub use answers::{put_answer, put_answer_from, put_check_text_from};
 pub use claims::Claim;
 pub use entries::failed_of;
 pub use faults::{TextError, TextFault, error_at, fault_at, name_of, told};
 pub use floors::{FloorRef, put_floors};
-pub use judgements::{put_check_text, put_pass};
+pub use judgements::{ClaimRef, put_check_text, put_pass};
 pub use kept::{write_check_text, write_history};
 pub use laws::{
     claims_are_read_again, histories_are_read_again, saved_machines_are_read_again,

@@ -103,9 +103,9 @@ fn take_in_claim(
         (λ _. spec.begun_left begun.new (number + 1)) row.now }
     ensures kept { IsBegun begun.new }
 {
-    let n = begun.text.history.n();
+    let _n = begun.text.history.n();
     let claim = &mut begun.text.claim;
-    let next = take_of_claim(begun.version, n, stage, claim, number, row, bytes)?;
+    let next = take_of_claim(begun.version, stage, claim, number, row, bytes)?;
     begun.stage = CheckStage::Claim(next);
     Ok(())
 }

@@ -130,7 +130,7 @@ fn take_claim<'a>(
     let mut stage = ClaimStage::Damage;
     let mut number = 1u64;
     'records: while records.next_row(row)? {
-        stage = take_of_claim(version, n, stage, claim, number, row, &mut bytes)?;
+        stage = take_of_claim(version, stage, claim, number, row, &mut bytes)?;
         number += 1;
     }
     close_claim(stage, number)
