@@ -5,7 +5,7 @@ use Rattle.line_names.specs.declared.limits.TheConstants.{MOST_PROCESSES}
 use Rattle.line_names.specs.declared.messages.MsgName.{MsgName}
 use Rattle.line_tape.specs.declared.receipts.chains.Receipt.{Receipt}
 use Rattle.line_tape.specs.Ends.{EndsView, IsEndPut, link_of_sender}
-use Rattle.line_tape.specs.Noted.{AreAlike, AreChained, AreLast, IsAhead, IsAside, IsBack, IsLastOfSender, name_at, receipt_at}
+use Rattle.line_tape.specs.Noted.{AreAlike, AreChained, AreLast, IsAhead, IsAside, IsBack, IsLastOfSender, IsWayBack, name_at, receipt_at}
 
 abbrev pub from_of : MsgName → ℕ
 from_of m = m.from
@@ -163,12 +163,20 @@ chained_alike rs os n h few chained links i l a =
       back_alike rs os n i (from_of (name_at rs i)) (from_of (name_at os i)) (receipt_at rs i).far (receipt_at os i).far h (omega arith) from (links i l old).1 (chained.far i within old),
     )
 
+-- a receipt is still ahead by its link back
+told_alike : (rs os : List Receipt) (n : ℕ) → AreAlike rs os n → n ≤ length rs → AreChained rs → (i : ℕ) → i < n → (receipt_at os i).near ≡ (receipt_at rs i).near
+    → (receipt_at os i).near ≢ 0 → (receipt_at os i).near ≤ i → IsAhead os i
+told_alike rs os n h few chained i l same some back =
+    ahead_alike rs os n i h l (chained.told i (omega arith) (λ none. some (same ∙ none)) (omega (arith, same, back)))
+
 -- one receipt more
 pub chained_more : (rs os : List Receipt) (n : ℕ) → length rs ≡ n → length os ≡ suc n → AreAlike rs os n → AreChained rs
     → ((i : ℕ) → i < n → IsAhead rs i → ((receipt_at rs i).near ≡ (receipt_at os i).near) × ((receipt_at rs i).far ≡ (receipt_at os i).far))
     → (IsAhead os n → IsLastOfSender rs n (from_of (name_at os n)) (receipt_at os n).near × IsBack rs n (from_of (name_at os n)) (receipt_at os n).far)
+    → ((i : ℕ) → i < n → (receipt_at os i).near ≢ 0 → (receipt_at os i).near ≤ i → (receipt_at os i).near ≡ (receipt_at rs i).near)
+    → ((receipt_at os n).near ≢ 0 → (receipt_at os n).near ≤ n → IsAhead os n)
     → from_of (name_at os n) < MOST_PROCESSES → AreChained os
-chained_more rs os n short long h chained links here sender = record {
+chained_more rs os n short long h chained links here nears told sender = record {
   near = λ i l a. elim (cases_lt i n) [
     | inl g ↦ (chained_alike rs os n h (omega arith) chained links i g a).0
     | inr g ↦
@@ -181,6 +189,12 @@ chained_more rs os n short long h chained links here sender = record {
         let is : n ≡ i = omega arith in
         subst (λ k. IsBack os k (from_of (name_at os k)) (receipt_at os k).far) is (back_alike rs os n n _ _ _ _ h (omega arith) refl refl (here (subst (IsAhead os) (sym is) a)).1)
   ];
+  told = λ i l some back. elim (cases_lt i n) [
+    | inl g ↦ told_alike rs os n h (omega arith) chained i g (nears i g some back) some back
+    | inr g ↦
+        let is : n ≡ i = omega arith in
+        subst (IsAhead os) is (told (subst (λ k. (receipt_at os k).near ≢ 0) (sym is) some) (subst (λ k. (receipt_at os k).near ≤ k) (sym is) back))
+  ];
   senders = λ i l. elim (cases_lt i n) [
     | inl g ↦ subst (λ x. x < MOST_PROCESSES) (ap from_of (h.each i g)) (chained.senders i (omega arith))
     | inr g ↦
@@ -192,9 +206,27 @@ chained_more rs os n short long h chained links here sender = record {
 -- one receipt less
 pub chained_less : (rs os : List Receipt) (n : ℕ) → length rs ≡ n → length os ≡ suc n → AreAlike os rs n → AreChained os
     → ((i : ℕ) → i < n → IsAhead os i → ((receipt_at os i).near ≡ (receipt_at rs i).near) × ((receipt_at os i).far ≡ (receipt_at rs i).far))
+    → ((i : ℕ) → i < n → (receipt_at rs i).near ≢ 0 → (receipt_at rs i).near ≡ (receipt_at os i).near)
     → AreChained rs
-chained_less rs os n short long h chained links = record {
+chained_less rs os n short long h chained links nears = record {
   near = λ i l a. (chained_alike os rs n h (omega arith) chained links i (omega arith) a).0;
   far = λ i l a. (chained_alike os rs n h (omega arith) chained links i (omega arith) a).1;
+  told = λ i l some back. told_alike os rs n h (omega arith) chained i (omega arith) (nears i (omega arith) some) some back;
   senders = λ i l. subst (λ x. x < MOST_PROCESSES) (ap from_of (h.each i (omega arith))) (chained.senders i (omega arith));
 }
+
+-- the way back from the last one of a sender leads over all of them
+pub way_from_last : (rs : List Receipt) (m : MsgName) (link : ℕ) → IsLastOfSender rs (length rs) m.from link → IsWayBack rs m link
+way_from_last rs m link last = record {
+  back = last.back;
+  each = λ i l a from number.
+      let k : (k : ℕ) × (link ≡ suc k) × (number_of (name_at rs i) ≤ number_of (name_at rs k)) = last.most i l from in
+      let there : (k.0 < length rs) × IsAhead rs k.0 × (from_of (name_at rs k.0) ≡ m.from) = last.back.each k.0 k.1 in
+      way_from rs i k.0 link a k.1 (there.2 ∙ sym from) k.2;
+}
+  where
+    way_from : (rs : List Receipt) (i k link : ℕ) → IsAhead rs i → link ≡ suc k → from_of (name_at rs k) ≡ from_of (name_at rs i) → number_of (name_at rs i) ≤ number_of (name_at rs k) → i < link
+    way_from rs i k link a is from high = elim (cases_lt k i) [
+      | inl g ↦ let w : number_of (name_at rs k) < number_of (name_at rs i) = a.above k g from in absurd (omega arith)
+      | inr g ↦ omega arith
+    ]

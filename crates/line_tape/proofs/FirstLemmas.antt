@@ -117,7 +117,7 @@ noted_none rs last none zeros =
     let few : length rs ≡ 0 = ap (λ (xs : List Receipt). length xs) none in
     record {
       few = omega arith;
-      chained = record { near = λ i l a. absurd (omega arith); far = λ i l a. absurd (omega arith); senders = λ i l. absurd (omega arith) };
+      chained = record { near = λ i l a. absurd (omega arith); far = λ i l a. absurd (omega arith); told = λ i l some back. absurd (omega arith); senders = λ i l. absurd (omega arith) };
       ends = record {
         each = λ s l.
             let is : link_of_sender last s ≡ 0 = zeros s in

@@ -80,6 +80,9 @@ module _ (rs : List Receipt) (r : Receipt) where
       let e : receipt_at rs i ≡ receipt_at more i = sym (get_or_append_left rs (r ∷ []) _ i l) in
       (ap near_of e, ap far_of e)
 
+  pub more_near : (i : ℕ) → i < length rs → (receipt_at more i).near ≡ (receipt_at rs i).near
+  more_near i l = ap near_of (get_or_append_left rs (r ∷ []) _ i l)
+
 -- a receipt more that is ahead
 pub noted_ahead : (rs : List Receipt) (last new : EndsView) (root : ℕ) (r : Receipt) → AreNoted rs last root → length rs < MOST_EVENTS → r.from < MOST_PROCESSES → IsEndPut last new r.from (length rs + 1)
     → ((i : ℕ) → i < length rs → (name_at rs i).from ≡ r.from → (name_at rs i).number < r.number)
@@ -106,6 +109,7 @@ noted_ahead rs last new root r noted few sender put above near far =
       few = omega arith;
       chained = chained_more rs os n refl long h noted.chained (more_links rs r)
           (λ a. (last_alike rs rs n n _ _ _ _ (record { each = λ i l. refl }) (omega arith) (sym from) (sym near ∙ sym (ap near_of at)) old, subst (λ (x : Receipt). IsBack rs n (from_of (name_at os n)) x.far) (sym at) (subst (λ s. IsBack rs n s r.far) (sym from) far)))
+          (λ i l some back. more_near rs r i l) (λ some back. ahead)
           (subst (λ s. s < MOST_PROCESSES) (sym from) sender);
       ends = ends_put os last new (suc n) r.from (suc n) long (subst (IsEndPut last new r.from) (omega arith) put) (last_here os n r.from ahead from)
           (λ q l ne. last_longer rs os n q (link_of_sender last q) h (λ same. absurd (ne (sym same ∙ from))) (noted.ends.each q l));
@@ -126,16 +130,18 @@ not_ahead rs os r h name (i, l, from, low) a =
 pub noted_behind : (rs os : List Receipt) (last : EndsView) (root other : ℕ) (r : Receipt) → AreNoted rs last root → length rs < MOST_EVENTS → length os ≡ suc (length rs)
     → AreAlike rs os (length rs) → name_at os (length rs) ≡ name_of_receipt r → r.from < MOST_PROCESSES
     → ((i : ℕ) → i < length rs → IsAhead rs i → ((receipt_at rs i).near ≡ (receipt_at os i).near) × ((receipt_at rs i).far ≡ (receipt_at os i).far))
+    → ((i : ℕ) → i < length rs → (receipt_at os i).near ≢ 0 → (receipt_at os i).near ≤ i → (receipt_at os i).near ≡ (receipt_at rs i).near)
+    → ((receipt_at os (length rs)).near ≡ 0)
     → ((i : ℕ) × (i < length rs) × ((name_at rs i).from ≡ r.from) × (r.number ≤ (name_at rs i).number))
     → AreInTree os other → AreNoted os last other
-noted_behind rs os last root other r noted few long h name sender links below tree =
+noted_behind rs os last root other r noted few long h name sender links nears leaf below tree =
     let n : ℕ = length rs in
     let from : from_of (name_at os n) ≡ r.from = ap from_of name in
     let v : number_of (name_at os n) ≡ r.number = ap number_of name in
     let low : number_of (name_at os n) ≤ number_of (name_at rs below.0) = (let w : r.number ≤ number_of (name_at rs below.0) = below.3 in omega arith) in
     record {
       few = omega arith;
-      chained = chained_more rs os n refl long h noted.chained links (λ a. absurd (not_ahead rs os r h name below a)) (subst (λ s. s < MOST_PROCESSES) (sym from) sender);
+      chained = chained_more rs os n refl long h noted.chained links (λ a. absurd (not_ahead rs os r h name below a)) nears (λ some back. absurd (some leaf)) (subst (λ s. s < MOST_PROCESSES) (sym from) sender);
       ends = record {
         each = λ q l. subst (λ m. IsLastOfSender os m q (link_of_sender last q)) (sym long) (last_longer rs os n q (link_of_sender last q) h (λ same. (below.0, below.1, below.2 ∙ sym from ∙ same, low)) (noted.ends.each q l));
       };
@@ -153,17 +159,25 @@ links_put rs more os root other above link n i far short node put same l a = (go
       | inr (e, f) ↦ absurd ((node.each i (sym e)).1.behind a)
     ]
 
+-- a link back that a receipt has after one is put elsewhere is the one that it had
+near_put : (rs os : List Receipt) (root other above link i : ℕ) (far : Bool) → IsPut rs root os other above far link → ((receipt_at os i).near ≡ link → ⊥)
+    → (receipt_at os i).near ≡ (receipt_at rs i).near
+near_put rs os root other above link i far put ne = elim (put.elsewhere (suc i) false) [
+  | inl e ↦ e
+  | inr (e, f) ↦ absurd (ne (same_seat os other (suc i) above false far e f ∙ put.there))
+]
+
 -- a receipt more of a message that has one in the tree
-pub noted_again : (rs : List Receipt) (last : EndsView) (root : ℕ) (r : Receipt) → AreNoted rs last root → length rs < MOST_EVENTS → r.from < MOST_PROCESSES
+pub noted_again : (rs : List Receipt) (last : EndsView) (root : ℕ) (r : Receipt) → AreNoted rs last root → length rs < MOST_EVENTS → r.from < MOST_PROCESSES → r.near ≡ 0
     → ((i : ℕ) × (i < length rs) × ((name_at rs i).from ≡ r.from) × (r.number ≤ (name_at rs i).number))
     → ((i : ℕ) × (i < length rs) × IsAside rs i × (name_at rs i ≡ name_of_receipt r)) → AreNoted (rs ++ r ∷ []) last root
-noted_again rs last root r noted few sender below (i, l, aside, named) =
+noted_again rs last root r noted few sender leaf below (i, l, aside, named) =
     let n : ℕ = length rs in
     let os : List Receipt = rs ++ r ∷ [] in
     let h : AreAlike rs os n = more_alike rs r in
     let name : name_at os n ≡ name_of_receipt r = ap name_of_receipt (more_here rs r) in
     let long : length os ≡ suc n = omega (arith, length_push rs r) in
-    noted_behind rs os last root root r noted few long h name sender (more_links rs r) below (tree_same rs os root n refl long h noted.tree (λ link side low. seated-append rs (r ∷ []) root link side low) (λ a. a.first i l (aside_alike rs os n i h l aside).behind (sym (h.each i l) ∙ named ∙ sym name)))
+    noted_behind rs os last root root r noted few long h name sender (more_links rs r) (λ i l some back. more_near rs r i l) (ap near_of (more_here rs r) ∙ leaf) below (tree_same rs os root n refl long h noted.tree (λ link side low. seated-append rs (r ∷ []) root link side low) (λ a. a.first i l (aside_alike rs os n i h l aside).behind (sym (h.each i l) ∙ named ∙ sym name)))
 
 leaf_of : (r : Receipt) (side : Bool) → r.near ≡ 0 → r.far ≡ 0 → (if side then r.far else r.near) ≡ 0
 leaf_of r true near far = far
@@ -188,7 +202,13 @@ noted_aside rs os last root other above far r noted few long sender near back be
       first = λ j l behind same. only_ahead rs root above far (name_of_receipt r) seat was j l (λ a. behind (ahead_alike rs os n j alike l a)) (alike.each j l ∙ same ∙ name);
       behind = λ a. not_ahead rs os r alike name below a;
     } in
-    noted_behind rs os last root other r noted few long alike name sender (λ i l a. links_put rs more os root other above (n + 1) n i far refl seat.node put (λ link side low. seated-append rs (r ∷ []) root link side low) l a) below
+    noted_behind rs os last root other r noted few long alike name sender (λ i l a. links_put rs more os root other above (n + 1) n i far refl seat.node put (λ link side low. seated-append rs (r ∷ []) root link side low) l a)
+    (λ i l some back. near_put more os root other above (n + 1) i far put (λ e. absurd (omega (arith, e, back, l))) ∙ more_near rs r i l)
+    (elim (put.elsewhere (suc n) false) [
+      | inl e ↦ e ∙ ap near_of (more_here rs r) ∙ near
+      | inr (e, f) ↦ absurd (omega arith)
+    ])
+    below
     (tree_more rs os root other n above far seat.led.0 refl long alike noted.tree
     (λ link side few. elim (put.elsewhere link side) [ inl e ↦ inl (e ∙ seated-append rs (r ∷ []) root link side few) | inr e ↦ inr e ])
     there was
@@ -223,7 +243,7 @@ noted_less_ahead os last new root n noted long put at =
     let here : (n < length os) × IsAhead os n × (from_of (name_at os n) ≡ s) = (noted.ends.each s sender).back.each n at in
     record {
       few = (let f : length os ≤ MOST_EVENTS = noted.few in omega arith);
-      chained = chained_less rs os n short long h noted.chained (λ i l a. take_links os n i l);
+      chained = chained_less rs os n short long h noted.chained (λ i l a. take_links os n i l) (λ i l some. sym (take_links os n i l).0);
       ends = ends_put rs last new n s (receipt_at os n).near short put (last_alike os rs n n _ _ _ _ h (omega arith) refl refl (noted.chained.near n (omega arith) here.1))
           (λ q l ne.
           let old : IsLastOfSender os (suc n) q (link_of_sender last q) = subst (λ m. IsLastOfSender os m q (link_of_sender last q)) long (noted.ends.each q l) in
@@ -234,10 +254,11 @@ noted_less_ahead os last new root n noted long put at =
 -- what stays of the chains where the last receipt is not ahead
 less_behind : (rs os : List Receipt) (last : EndsView) (root other n : ℕ) → AreNoted os last root → length rs ≡ n → length os ≡ suc n → AreAlike os rs n
     → ((i : ℕ) → i < n → IsAhead os i → ((receipt_at os i).near ≡ (receipt_at rs i).near) × ((receipt_at os i).far ≡ (receipt_at rs i).far))
+    → ((i : ℕ) → i < n → (receipt_at rs i).near ≢ 0 → (receipt_at rs i).near ≡ (receipt_at os i).near)
     → (IsAhead os n → ⊥) → AreInTree rs other → AreNoted rs last other
-less_behind rs os last root other n noted short long h links behind tree = record {
+less_behind rs os last root other n noted short long h links nears behind tree = record {
   few = (let f : length os ≤ MOST_EVENTS = noted.few in omega arith);
-  chained = chained_less rs os n short long h noted.chained links;
+  chained = chained_less rs os n short long h noted.chained links nears;
   ends = record {
     each = λ q l.
         let old : IsLastOfSender os (suc n) q (link_of_sender last q) = subst (λ m. IsLastOfSender os m q (link_of_sender last q)) long (noted.ends.each q l) in
@@ -259,7 +280,7 @@ noted_less_again os last root n above far noted long other seat ne =
     let rs : List Receipt = take n os in
     let h : AreAlike os rs n = take_alike os n in
     let short : length rs ≡ n = length-take-le n os (omega arith) in
-    less_behind rs os last root root n noted short long h (λ i l a. take_links os n i l) (is_behind os last root n noted long other)
+    less_behind rs os last root root n noted short long h (λ i l a. take_links os n i l) (λ i l some. sym (take_links os n i l).0) (is_behind os last root n noted long other)
     (tree_less rs os root root n short long h noted.tree (λ link side low node. inl (seated-take os n root link side low, no_link os root n link side noted.tree (λ a. ne (seat.found n (omega arith) a refl)) node)))
 
 -- a receipt less of the tree
@@ -277,6 +298,9 @@ noted_less_aside os mid last root other n above far noted long whole ne seat at 
     let e : ((receipt_at os i).near ≡ (receipt_at mid i).near) × ((receipt_at os i).far ≡ (receipt_at mid i).far) = links_put os os mid root other above 0 (suc n) i far long seat.node put (λ link side low. refl) (omega arith) a in
     let f : ((receipt_at mid i).near ≡ (receipt_at rs i).near) × ((receipt_at mid i).far ≡ (receipt_at rs i).far) = take_links mid n i l in
     (e.0 ∙ f.0, e.1 ∙ f.1))
+    (λ i l some.
+    let f : (receipt_at mid i).near ≡ (receipt_at rs i).near = (take_links mid n i l).0 in
+    sym f ∙ near_put os mid root other above 0 i far put (λ e. some (sym f ∙ e)))
     (is_behind os last root n noted long ne)
     (tree_less rs os root other n short long h noted.tree (λ link side low node.
     let cut : link_in_seat rs other link side ≡ link_in_seat mid other link side = seated-take mid n other link side low in
@@ -315,14 +339,14 @@ module _ (rs items : List Receipt) (last : EndsView) (root : ℕ) (seen : rs ≡
       (λ i l e. let w : number_of (name_at rs i) < receipt.number = above i l (e ∙ from) in omega arith)
       (near ∙ ap (λ s. link_of_sender last s) (sym from)) (subst (λ s. IsBack rs (length rs) s linked.far) (sym from) far))
 
-  pub added_again : (new : List Receipt) (r : Receipt) → new ≡ items ++ r ∷ [] → r.from < MOST_PROCESSES
+  pub added_again : (new : List Receipt) (r : Receipt) → new ≡ items ++ r ∷ [] → r.from < MOST_PROCESSES → r.near ≡ 0
       → ((i : ℕ) × (i < length rs) × ((name_at rs i).from ≡ r.from) × (r.number ≤ (name_at rs i).number))
       → (above : ℕ) (far : Bool) → IsSeatOf rs root (name_of_receipt r) above far → link_in_seat rs root above far ≢ 0 → AreNoted new last root
-  added_again new r pushed sender below above far seat some =
+  added_again new r pushed sender leaf below above far seat some =
       let k : ℕ = link_in_seat rs root above far - 1 in
       let is : link_in_seat rs root above far ≡ suc k = omega arith in
       let there : (k < length rs) × IsAside rs k = (noted_so.tree.nodes above far seat.node).each k is in
-      subst (λ (xs : List Receipt). AreNoted xs last root) (sym (pushed_so new r pushed)) (noted_again rs last root r noted_so few_so sender below (k, there.0, there.1, seat.named k is))
+      subst (λ (xs : List Receipt). AreNoted xs last root) (sym (pushed_so new r pushed)) (noted_again rs last root r noted_so few_so sender leaf below (k, there.0, there.1, seat.named k is))
 
   pub pushed_node : (new : List Receipt) (r : Receipt) (link : ℕ) → new ≡ items ++ r ∷ [] → IsNode rs link → IsNode new link
   pushed_node new r link pushed node =

@@ -51,13 +51,22 @@ pub record IsLastOfSender (receipts : List Receipt) (n sender link : ℕ) : Type
   pub most : (i : ℕ) → i < n → (name_at receipts i).from ≡ sender
       → (k : ℕ) × (link ≡ suc k) × ((name_at receipts i).number ≤ (name_at receipts k).number)
 
+-- from this link the chain leads back over each receipt that is ahead and of the message
+pub record IsWayBack (receipts : List Receipt) (message : MsgName) (link : ℕ) : Type 0 where
+  pub back : IsBack receipts (length receipts) message.from link
+  pub each : (i : ℕ) → i < length receipts → IsAhead receipts i
+      → (name_at receipts i).from ≡ message.from → (name_at receipts i).number ≡ message.number
+      → i < link
+
 -- each receipt that is ahead has the link to the last one before it of its sender, and one further
--- back
+-- back; and one whose link leads back is ahead
 pub record AreChained (receipts : List Receipt) : Type 0 where
   pub near : (i : ℕ) → i < length receipts → IsAhead receipts i
       → IsLastOfSender receipts i (name_at receipts i).from (receipt_at receipts i).near
   pub far : (i : ℕ) → i < length receipts → IsAhead receipts i
       → IsBack receipts i (name_at receipts i).from (receipt_at receipts i).far
+  pub told : (i : ℕ) → i < length receipts → (receipt_at receipts i).near ≢ 0
+      → (receipt_at receipts i).near ≤ i → IsAhead receipts i
   pub senders : (i : ℕ) → i < length receipts → (name_at receipts i).from < MOST_PROCESSES
 
 -- the links to the last of each sender

@@ -9,11 +9,13 @@ ghost use Rattle.line_tape.specs.Noted.{name_at};
 
 mod chains;
 mod ends;
+mod guesses;
 mod trees;
 
 use crate::limits::MOST_EVENTS;
 use chains::{Receipt, find_ahead, is_ahead, linked_back};
 use ends::LastLinks;
+use guesses::nearer;
 use line_names::MsgName;
 use std::alloc::{AllocError, Global};
 use std::marker::Model;
@@ -64,7 +66,8 @@ fn find(receipts: &[Receipt], last: u32, root: u32, wanted: &Receipt) -> u32
     if is_ahead(receipts, last, wanted) {
         return 0;
     }
-    let link = find_ahead(receipts, last, wanted);
+    let start = nearer(receipts, last, wanted);
+    let link = find_ahead(receipts, start, wanted);
     if link != 0 {
         return link;
     }

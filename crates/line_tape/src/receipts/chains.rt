@@ -2,7 +2,8 @@
 ghost use Rattle.std.specs.Prelude.{◌≡◌, ◌≢◌, ◌<◌, ◌≤◌, ◌-◌, ℕ, suc, false, length, IsTrue};
 ghost use Rattle.line_names.specs.declared.limits.TheConstants.{MOST_PROCESSES};
 ghost use Rattle.line_names.specs.Names.{is_name};
-ghost use Rattle.line_tape.specs.Noted.{AreChained, IsAhead, IsBack, IsLastOfSender, key_of};
+ghost use Rattle.line_tape.specs.Noted.{AreChained, IsAhead, IsBack, IsLastOfSender, IsWayBack};
+ghost use Rattle.line_tape.specs.Noted.{key_of};
 ghost use Rattle.line_tape.specs.Noted.{name_of_receipt};
 ghost use Rattle.line_tape.specs.Noted.{name_at};
 
@@ -100,18 +101,18 @@ fn back_from(receipts: &[Receipt], link: u32, number: u32) -> u32
     at.far
 }
 
-/// The receipt of the message that is ahead, searched from the last one of its sender that is; 0 if
-/// none is. The steps are logarithmic in the number of these.
-pub fn find_ahead(receipts: &[Receipt], last: u32, wanted: &Receipt) -> u32
+/// The receipt of the message that is ahead, searched from one of its sender that is; 0 if none is.
+/// The steps are logarithmic in the number of these.
+pub fn find_ahead(receipts: &[Receipt], start: u32, wanted: &Receipt) -> u32
     requires chained { AreChained receipts.now }
-    requires last { IsLastOfSender receipts.now (length receipts.now) wanted.now.from last }
+    requires way { IsWayBack receipts.now (name_of_receipt wanted.now) start }
     ensures found { (i : ℕ) → result ≡ suc i
         → (i < length receipts.now) × IsAhead receipts.now i
         × (name_at receipts.now i ≡ name_of_receipt wanted.now) }
     ensures none { (i : ℕ) → result ≡ 0 → i < length receipts.now → IsAhead receipts.now i
         → name_at receipts.now i ≢ name_of_receipt wanted.now }
 {
-    let mut link = last;
+    let mut link = start;
     while link != 0 {
         let at = receipts[link as usize - 1];
         if at.number <= wanted.number {

@@ -32,7 +32,7 @@ invariant_of-self-then-known-ne0 c =
     let items : List Receipt = c.self.inside.receipts.items in
     let few : length items < MOST_EVENTS = omega (arith, c.requires.few, ap (λ (r : ReceiptsView). length r.names) c.self.view_is, length-map items name_of_receipt) in
     let pushed : c.push_reserved-2.new.self.items ≡ items ++ c.of-receipt.result ∷ [] = search rules in
-    added_again c.as_slice-before.result.now items c.self.inside.last c.self.inside.root c.as_slice-before.ensures.value c.self.invariant few c.push_reserved-2.new.self.items c.of-receipt.result pushed c.of-receipt.ensures.sender (c.is_ahead.ensures.no c.if-is_ahead.false) c.seat_of-seat.result.above c.seat_of-seat.result.far c.seat_of-seat.ensures (λ none. c.if-known-ne0.true (c.link_at-known.ensures ∙ none))
+    added_again c.as_slice-before.result.now items c.self.inside.last c.self.inside.root c.as_slice-before.ensures.value c.self.invariant few c.push_reserved-2.new.self.items c.of-receipt.result pushed c.of-receipt.ensures.sender c.of-receipt.ensures.links.0 (c.is_ahead.ensures.no c.if-is_ahead.false) c.seat_of-seat.result.above c.seat_of-seat.result.far c.seat_of-seat.ensures (λ none. c.if-known-ne0.true (c.link_at-known.ensures ∙ none))
 
 pub invariant_of-self-2 : goal.invariant_of-self-2
 invariant_of-self-2 c =

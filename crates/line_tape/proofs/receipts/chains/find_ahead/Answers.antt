@@ -8,7 +8,7 @@ use Rattle.line_tape.proofs.receipts.chains.find_ahead.Goals as goal
 pub bounds-receipts-link : goal.bounds-receipts-link
 bounds-receipts-link c =
     let some : c.loop-link.link ≡ suc (c.loop-link.link - 1) = omega arith in
-    (c.loop-link.invariant.0.each (c.loop-link.link - 1) some).0
+    (c.loop-link.invariant.back.each (c.loop-link.link - 1) some).0
 
 pub loop-link-smaller : goal.loop-link-smaller
 loop-link-smaller c =
@@ -20,15 +20,15 @@ loop-link-preserved c =
     let rs : List Receipt = c.args.receipts.now in
     let k : ℕ = c.loop-link.link - 1 in
     let some : c.loop-link.link ≡ suc k = omega arith in
-    let here : (k < length rs) × IsAhead rs k × (from_of (name_at rs k) ≡ c.args.wanted.now.from) = c.loop-link.invariant.0.each k some in
+    let here : (k < length rs) × IsAhead rs k × (from_of (name_at rs k) ≡ c.args.wanted.now.from) = c.loop-link.invariant.back.each k some in
     let low : k < length rs = here.0 in
-    let greater : c.args.wanted.now.number < number_of (name_at rs k) = omega arith in (
-      back_wide rs k (length rs) (from_of (name_at rs k)) c.args.wanted.now.from c.back_from-link.result (omega arith) here.2 c.back_from-link.ensures.back,
-      λ i l a from number.
-          let early : i < c.loop-link.link = c.loop-link.invariant.1 i l a from number in
+    let greater : c.args.wanted.now.number < number_of (name_at rs k) = omega arith in record {
+      back = back_wide rs k (length rs) (from_of (name_at rs k)) c.args.wanted.now.from c.back_from-link.result (omega arith) here.2 c.back_from-link.ensures.back;
+      each = λ i l a from number.
+          let early : i < c.loop-link.link = c.loop-link.invariant.each i l a from number in
           let ne : i ≢ k = λ is.
           let e : number_of (name_at rs i) ≡ number_of (name_at rs k) = ap (λ x. number_of (name_at rs x)) is in
           let f : number_of (name_at rs i) ≡ c.args.wanted.now.number = number in
           omega arith in
-          c.back_from-link.ensures.passed greater i (omega arith) a (from ∙ sym here.2) number,
-    )
+          c.back_from-link.ensures.passed greater i (omega arith) a (from ∙ sym here.2) number;
+    }
