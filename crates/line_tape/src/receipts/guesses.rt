@@ -1,13 +1,10 @@
-//! Guesses of where the receipt of a number stands: interpolation search.
-ghost use Rattle.std.specs.Prelude.{◌≡◌, ◌≢◌, ◌<◌, ◌≤◌, ◌-◌, ℕ, length};
-ghost use Rattle.line_tape.specs.Noted.{AreChained, IsBack, IsWayBack, name_at, name_of_receipt};
+//! A guess of where the receipt of a number stands: interpolation search.
+ghost use Rattle.std.specs.Prelude.{◌≡◌, ◌≢◌, ◌<◌, ◌≤◌, ◌-◌, length};
+ghost use Rattle.line_tape.specs.Noted.{AreChained, IsWayBack, name_at, name_of_receipt};
 
 use super::chains::Receipt;
 
-/// How many guesses there are.
-const GUESSES: u32 = 3;
-
-/// How many receipts each of them looks at: two lines of the cache, or three.
+/// How many receipts a guess looks at: two lines of the cache, or three.
 const LOOKS: u32 = 8;
 
 /// So many times a part of a whole.
@@ -18,30 +15,32 @@ fn share(times: u32, part: u32, whole: u32) -> u32
     (u64::from(times) * u64::from(part) / (u64::from(whole) + 1)) as u32
 }
 
-/// The link to the first receipt of the sender among the few from a place to an end, of those with
-/// a link that leads back; 0 if there is none.
-fn met(receipts: &[Receipt], place: u32, end: u32, sender: u8) -> u32
+/// The link to the first of a few receipts from a place on that is of the wanted one's sender, has
+/// no lower number, and is ahead, as a link that leads back tells; 0 if none is met before the end.
+fn met(receipts: &[Receipt], place: u32, end: u32, wanted: &Receipt) -> u32
     requires chained { AreChained receipts.now }
     requires within { end ≤ length receipts.now }
-    ensures back { IsBack receipts.now (length receipts.now) sender result }
-    ensures between { result ≢ 0 → (place < result) × (result ≤ end) }
+    ensures { result ≢ 0 → IsWayBack receipts.now (name_of_receipt wanted.now) result }
 {
     for before in place..end.min(place.saturating_add(LOOKS)) {
         let receipt = receipts[before as usize];
-        if receipt.from == sender && receipt.near != 0 && receipt.near <= before {
+        if receipt.from != wanted.from || receipt.number < wanted.number {
+            continue;
+        }
+        if receipt.near != 0 && receipt.near <= before {
             return before + 1;
         }
     }
     0
 }
 
-/// Where a search for a number that is not above the last one's begins: at a receipt of the sender
-/// that is ahead, and behind which none of the number is.
+/// Where the way back to a number begins, which is not above that of the last receipt: at one of
+/// the sender behind which no receipt of the number is.
 ///
-/// Where a sender's numbers come evenly, that is the receipt of the number itself. Each guess is by
-/// proportion between two receipts of the sender (interpolation search: Perl, Itai and Avni,
-/// Communications of the ACM 21(7), 1978), the first between the first number and the last. Where
-/// its last two receipts are far apart none is made, since it would seldom meet one.
+/// Where a sender's numbers come evenly, that is the receipt of the number itself, which stands
+/// among all receipts by proportion (interpolation search: Perl, Itai and Avni, Communications of
+/// the ACM 21(7), 1978). Where the sender's last two receipts are far apart, a guess would seldom
+/// meet one, and none is made.
 pub fn nearer(receipts: &[Receipt], last: u32, wanted: &Receipt) -> u32
     requires chained { AreChained receipts.now }
     requires way { IsWayBack receipts.now (name_of_receipt wanted.now) last }
@@ -53,27 +52,10 @@ pub fn nearer(receipts: &[Receipt], last: u32, wanted: &Receipt) -> u32
     if end.near.saturating_add(LOOKS) < last {
         return last;
     }
-    let mut link = last;
-    let mut top = end.number;
-    let mut low = 0;
-    let mut bottom = 0;
-    for _guess in 0..GUESSES {
-        let place = low + share(link - low, wanted.number - bottom, top - bottom);
-        let other = met(receipts, place, link - 1, wanted.from);
-        if other == 0 {
-            return link;
-        }
-        let number = receipts[other as usize - 1].number;
-        if number < wanted.number {
-            low = other;
-            bottom = number + 1;
-            continue;
-        }
-        link = other;
-        top = number;
-        if number == wanted.number {
-            return link;
-        }
+    let place = share(last, wanted.number, end.number);
+    let link = met(receipts, place, last, wanted);
+    if link == 0 {
+        return last;
     }
     link
 }

@@ -1,4 +1,3 @@
-use Rattle.std.proofs.Common.{ℕ}
 use Rattle.line_tape.specs.Noted.{IsWayBack, name_of_receipt}
 use Rattle.line_tape.proofs.receipts.chains.find_ahead.Given as goal
 
