@@ -78,19 +78,33 @@ class Saved(Reading):
             all(max(it.lost_checks, it.sends) <= MOST_LOST for it in self.history.floors)
             and max(checked, default=0) <= self.begun
             and self.links_fit()
-            and all(self.history.is_consistent(line) for _, line in self.listed)
+            and self.has_floor()
+            and all(map(self.is_round, self.listed))
         )
 
-    def is_left(self) -> bool:
-        """Whether a machine may have been saved so. Nobody is told where none was."""
+    def has_floor(self) -> bool:
+        """Whether the checks that the processes begin with survive, and make a consistent line."""
         floors = [it.check for it in self.history.floors]
-        checked = {it.round for it in among(Check, self.events()) if it.round}
         return (
             all(it <= self.history.checks(p) for p, it in enumerate(floors))
             and all(self.claim.marks.allow(p, it) for p, it in enumerate(floors))
             and self.history.is_consistent(floors)
-            and all(it >= max(low, 1) for _, line in self.listed for it, low in zip(line, floors))
-            and all((it, self.history.round_line(it)) in self.listed for it in checked)
+        )
+
+    def is_round(self, listed: tuple[int, Line]) -> bool:
+        """Whether the checks of a listed round are a consistent line, and none an initial state."""
+        _, line = listed
+        floors = [max(it.check, 1) for it in self.history.floors]
+        return (
+            all(it >= least for it, least in zip(line, floors))
+            and self.history.is_consistent(line)
+        )
+
+    def is_left(self) -> bool:
+        """Whether a machine may have been saved so. Nobody is told where none was."""
+        checked = {it.round for it in among(Check, self.events()) if it.round}
+        return (
+            all((it, self.history.round_line(it)) in self.listed for it in checked)
             and not any(p in map(partner, tape) for p, tape in enumerate(self.tapes))
         )
 

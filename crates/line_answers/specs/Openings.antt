@@ -37,16 +37,16 @@ opened parts = record {
   kept = resumed_machine parts.history parts.marks parts.last (rounds_of_saved parts.rounds);
 }
 
--- a machine may have these parts, whatever names and marks there are
+-- a machine may have these parts, whatever names there are
 abbrev pub IsResumed : SavedParts → Type 0
 IsResumed parts =
-    IsResumable parts.history (saved_floor parts.floors parts.last) parts.last
+    IsResumable parts.history parts.marks (saved_floor parts.floors parts.last) parts.last
     (rounds_of_saved parts.rounds)
 
 -- none has these parts, by this cause
 abbrev pub IsResumeRefusedOf : SavedParts → ResumeError → Type 0
 IsResumeRefusedOf parts cause =
-    IsResumeRefused parts.history (saved_floor parts.floors parts.last) parts.last
+    IsResumeRefused parts.history parts.marks (saved_floor parts.floors parts.last) parts.last
     (rounds_of_saved parts.rounds) cause
 
 -- a machine has these parts

@@ -8,5 +8,7 @@ pub mod FirstFloors
 pub mod FewNumbers
 pub mod WholeLives
 pub mod LiveRuns
+pub mod HeldFloors
+pub mod HeldForgets
 pub mod LiveSteps
 pub mod ResumedLemmas

@@ -4,6 +4,7 @@ use Rattle.std.specs.Prelude.{◌==◌}
 use Rattle.std.specs.List.{All, AllPairs}
 use Rattle.std.proofs.lemmas.Bool.{cases_eq, cases_lt, eq-eqb, ne_eqb}
 use Rattle.std.proofs.lemmas.List.{get_or-map, length-map, map-append, take_more}
+use Rattle.std.proofs.lemmas.List.Elements.{All-map, All-weaker}
 use Rattle.std.proofs.lemmas.List.FromFn.{length-map-range_with_len}
 use Rattle.line_names.specs.declared.choices.Choice.{Choice}
 use Rattle.line_names.specs.declared.choices.Choice.TheVariants.{Check as AtCheck}
@@ -22,7 +23,7 @@ use Rattle.line_colours.specs.Tables.{between, table_of}
 use Rattle.line_colours.proofs.TableLemmas.{between-of, table_of-all, IsTable-of}
 use Rattle.line_moves.specs.Listed.{ListedRound, channel_in, channel_table, IsSnapshotOf}
 use Rattle.line_moves.specs.Worlds.{AreNumbered}
-use Rattle.line_live.specs.Resumed.{CheckedRound, checks_in_round, resumed_round, AreByNumber, IsConsistentRound}
+use Rattle.line_live.specs.Resumed.{CheckedRound, checks_in_round, resumed_round, AreByNumber, AreChecks, IsConsistentRound}
 use Rattle.line_live.proofs.ListedCuts.{same_round}
 
 -- the channel from a process to another is what is in transit at the checks
@@ -147,10 +148,17 @@ told_in_order last rounds is = record {
       omega (arith, at, there, known);
 }
 
-pub told_consistent : (history : List Process) (rounds : List ListedRound) → All (IsSnapshotOf history) rounds → All (IsConsistentRound history) (map checks_in_round rounds)
-told_consistent history rounds all k d within =
-    let snapshot : IsSnapshotOf history (get_or rounds k none_listed) = all k none_listed (omega (arith, within, length-map rounds checks_in_round)) in
-    subst (IsConsistentRound history) (sym (told_at rounds k d within)) (record { line = snapshot.line; consistent = snapshot.consistent })
+pub told_consistent : (history : List Process) (rounds : List ListedRound) → All (IsSnapshotOf history) rounds → All (λ (round : ListedRound). AreChecks round.checks) rounds → All (IsConsistentRound history) (map checks_in_round rounds)
+told_consistent history rounds all checked k d within =
+    let inside : k < length rounds = omega (arith, within, length-map rounds checks_in_round) in
+    let snapshot : IsSnapshotOf history (get_or rounds k none_listed) = all k none_listed inside in
+    subst (IsConsistentRound history) (sym (told_at rounds k d within)) (record { checked = checked k none_listed inside; line = snapshot.line; consistent = snapshot.consistent })
+
+-- and what is listed of such rounds has no initial state either
+pub resumed_checked : (history : List Process) (rounds : List CheckedRound) → All (IsConsistentRound history) rounds → All (λ (round : ListedRound). AreChecks round.checks) (map (resumed_round history) rounds)
+resumed_checked history rounds all =
+    All-map (λ (round : ListedRound). AreChecks round.checks) (resumed_round history) rounds
+    (All-weaker (IsConsistentRound history) (λ (round : CheckedRound). AreChecks round.checks) (λ round is. is.checked) rounds all)
 
 -- a vector fits the sends before a line exactly where all that its process received is sent before it
 pub fits_sent : (history : List Process) (line : List Choice) (p : ℕ) (choice : Choice) (reach sent : List ℕ) → choice ≡ choice_at line p → sent ≡ sents_of history line
@@ -161,12 +169,12 @@ fits_sent history line p choice reach sent at sent_is decides =
     (subst (λ (s : List ℕ). Fits reach s ↔ AreSentBefore history line (front (tape_at history p) choice)) (sym sent_is) (decides line))
 
 -- the line of a round's checks is one: whether it is consistent is whether the round is
-pub told_round : (history known : List Process) (round : CheckedRound) (line : List Choice) (checks : List ℕ) → known ≡ history → line ≡ check_line checks → checks ≡ round.checks → IsLine known line
+pub told_round : (history known : List Process) (round : CheckedRound) (line : List Choice) (checks : List ℕ) → known ≡ history → line ≡ check_line checks → checks ≡ round.checks → AreChecks checks → IsLine known line
     → (b : Bool) → IsTrue b ↔ IsConsistent history line → IsTrue b ↔ IsConsistentRound history round
-told_round history known round line checks known_is line_is checks_is is_line b both =
+told_round history known round line checks known_is line_is checks_is checked is_line b both =
     let same : line ≡ check_line round.checks = line_is ∙ ap check_line checks_is in
     let is : IsLine history (check_line round.checks) = subst (IsLine history) same (subst (λ (h : List Process). IsLine h line) known_is is_line) in (
-      λ t. record { line = is; consistent = subst (IsConsistent history) same (both.0 t) },
+      λ t. record { checked = subst AreChecks checks_is checked; line = is; consistent = subst (IsConsistent history) same (both.0 t) },
       λ round_is. both.1 (subst (IsConsistent history) (sym same) round_is.consistent),
     )
 

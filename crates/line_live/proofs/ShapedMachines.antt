@@ -1,9 +1,10 @@
 -- What each step keeps of a machine, even if a tape is full: its mode, how many processes marks, bars
--- and listed rounds are of, and that no check of a listed round is an initial state.
+-- and listed rounds are of, and what is true of each listed round when it is new, as that none of its
+-- checks is an initial state.
 use Rattle.std.proofs.Common.{◌≡◌, ◌≢◌, ℕ, suc, ◌+◌, ◌<◌, ◌≤◌, Bool, true, false, not, ◌&&◌, cond, List, [], ◌∷◌, ◌++◌, length, replicate, Some, None, Result, Ok, Err, IfOk, IfErr, IsErrOf, refl, sym, ap, ◌∙◌, subst, arith}
-use Rattle.std.specs.List.{All}
+use Rattle.std.specs.List.{All, range_with_len}
 use Rattle.std.proofs.lemmas.List.{length-replicate, length-set}
-use Rattle.std.proofs.lemmas.List.Elements.{All-append, All-cons, All-filter, All-nil}
+use Rattle.std.proofs.lemmas.List.Elements.{All-append, All-cons, All-filter, All-map, All-nil}
 use Rattle.std.proofs.lemmas.List.FromFn.{length-map-range_with_len, get_or-map-range_with_len}
 use Rattle.line_names.specs.declared.choices.Choice.{Choice}
 use Rattle.line_tape.specs.declared.events.Event.{Event}
@@ -30,6 +31,7 @@ use Rattle.line_world.specs.Machine.{Machine, start, with_step}
 use Rattle.line_world.specs.Runs.{Takes}
 use Rattle.line_world.specs.Steps.{restarted_machine, Does, RecoversWith}
 use Rattle.line_lives.specs.Lives.{TakesWithRoom}
+use Rattle.line_live.specs.Resumed.{AreChecks}
 
 -- a listed round has a check of each of n processes, and none is an initial state
 pub record IsShapedRound (n : ℕ) (round : ListedRound) : Type 0 where
@@ -157,26 +159,79 @@ pub takes_long : (old : Machine) (step : Step) (answer : Answer) (new : Machine)
 takes_long old step (Done reply) new takes = long_done old step reply new takes.1
 takes_long old step (Refused e) new takes = ap (λ (m : Machine). length m.history) takes.1
 
+-- of listed rounds stays true what is true of each new one
+module _ (P : ListedRound → Type 0) (each : (mode : Mode) (history : List Process) (r : ℕ) → P (listed_round mode history r)) where
+  newly_all : (mode : Mode) (old new : List Process) (last : ℕ) → All P (newly_listed mode old new last)
+  newly_all mode old new last = elim (is_completed mode new last && not (is_completed mode old last)) as (λ b. All P (cond b (listed_round mode new last ∷ []) [])) [
+    | true ↦ All-cons P (listed_round mode new last) [] (each mode new last) (All-nil P)
+    | false ↦ All-nil P
+  ]
+
+  module _ (old : Machine) (all : All P old.rounds) where
+    grown : (p : ℕ) (events : List Event) (last : ℕ) → All P (with_step old p events last).rounds
+    grown p events last =
+        let new : List Process = with_events old.history p events in
+        All-append P old.rounds (newly_listed old.mode old.history new last) all (newly_all old.mode old.history new last)
+
+    abbrev Listed : Machine → Type 0
+    Listed machine = All P machine.rounds
+
+    listed_recovered : (failed : List Bool) (reply : Reply) (new : Machine) → RecoversWith old failed reply new → Listed new
+    listed_recovered failed (Recovered plan states incarnations) new does = subst Listed (sym does.new_is) (All-filter (stays plan.value.line) P old.rounds all)
+    listed_recovered failed (Sent m) new does = absurd does
+    listed_recovered failed (Took m forced) new does = absurd does
+    listed_recovered failed (Marked r forced) new does = absurd does
+    listed_recovered failed (Stale m) new does = absurd does
+    listed_recovered failed (Repeated m) new does = absurd does
+    listed_recovered failed (Checked at c) new does = absurd does
+    listed_recovered failed (Begun at c r) new does = absurd does
+    listed_recovered failed (Turned at c r) new does = absurd does
+    listed_recovered failed (Damaged at c) new does = absurd does
+    listed_recovered failed (Barred at c) new does = absurd does
+
+    listed_done : (step : Step) (reply : Reply) (new : Machine) → Does old step reply new → Listed new
+    listed_done (Send from to body) reply new does = subst Listed (sym does.1) (grown from (SendEvent to (incarnation_at old.history from) body ∷ []) old.last_round)
+    listed_done (Deliver from to pick state) reply new does = subst Listed (sym does.new_is) (grown to (events_taken old.mode old.history from to state does.item) old.last_round)
+    listed_done (Check at state) reply new does = subst Listed (sym does.1) (grown at (CheckEvent state None ∷ []) old.last_round)
+    listed_done (Begin at state) reply new does = subst Listed (sym does.1) (grown at (CheckEvent state (Some (old.last_round + 1)) ∷ []) (old.last_round + 1))
+    listed_done (Turn at state) reply new does = subst Listed (sym does.1) (grown at (CheckEvent state (Some old.last_round) ∷ []) old.last_round)
+    listed_done (Damage at check) reply new does = subst Listed (sym does.1) all
+    listed_done (Bar at check) reply new does = subst Listed (sym does.1) all
+    listed_done (Recover failed) reply new does = listed_recovered failed reply new does
+
+    pub listed_taken : (step : Step) (answer : Answer) (new : Machine) → Takes old step answer new → Listed new
+    listed_taken step (Done reply) new takes = listed_done step reply new takes.1
+    listed_taken step (Refused e) new takes = subst Listed (sym takes.1) all
+
+-- no check of a round that is new is an initial state
+pub new_checked : (mode : Mode) (history : List Process) (r : ℕ) → AreChecks (listed_round mode history r).checks
+new_checked mode history r = All-map (λ check. 1 ≤ check) (λ q. check_index r (tape_at history q)) (range_with_len 0 (length history)) (λ k d within. omega arith)
+
 -- whatever comes of a step
+module _ (R : Type 0) (T : Answer → Type 0) (taken : (answer : Answer) → T answer → R) where
+  pub whatever : (result : Result Reply StepError) → IfOk result (λ (reply : Reply). T (Done reply)) → IfErr result (λ (e : StepError). e ≢ OutOfMemory → T (Refused e)) → (IsErrOf result OutOfMemory → R) → R
+  whatever (Ok reply) done refused memory = taken (Done reply) done
+  whatever (Err OutOfMemory) done refused memory = memory refl
+  whatever (Err NoSuchProcess) done refused memory = taken (Refused NoSuchProcess) (refused (λ e. cc e))
+  whatever (Err TapeFull) done refused memory = taken (Refused TapeFull) (refused (λ e. cc e))
+  whatever (Err NoSuchCheck) done refused memory = taken (Refused NoSuchCheck) (refused (λ e. cc e))
+  whatever (Err StateTooLong) done refused memory = taken (Refused StateTooLong) (refused (λ e. cc e))
+  whatever (Err InitialDamage) done refused memory = taken (Refused InitialDamage) (refused (λ e. cc e))
+  whatever (Err AlreadyDamaged) done refused memory = taken (Refused AlreadyDamaged) (refused (λ e. cc e))
+  whatever (Err ToSelf) done refused memory = taken (Refused ToSelf) (refused (λ e. cc e))
+  whatever (Err LinkEmpty) done refused memory = taken (Refused LinkEmpty) (refused (λ e. cc e))
+  whatever (Err BadPick) done refused memory = taken (Refused BadPick) (refused (λ e. cc e))
+  whatever (Err RoundOpen) done refused memory = taken (Refused RoundOpen) (refused (λ e. cc e))
+  whatever (Err NothingToTurn) done refused memory = taken (Refused NothingToTurn) (refused (λ e. cc e))
+  whatever (Err WrongMode) done refused memory = taken (Refused WrongMode) (refused (λ e. cc e))
+  whatever (Err NoMoreRounds) done refused memory = taken (Refused NoMoreRounds) (refused (λ e. cc e))
+  whatever (Err NoMoreIncarnations) done refused memory = taken (Refused NoMoreIncarnations) (refused (λ e. cc e))
+  whatever (Err BarNotLower) done refused memory = taken (Refused BarNotLower) (refused (λ e. cc e))
+
 pub step_long : (old : Machine) (step : Step) (result : Result Reply StepError) (new : Machine) → IfOk result (λ (reply : Reply). Takes old step (Done reply) new)
     → IfErr result (λ (e : StepError). e ≢ OutOfMemory → Takes old step (Refused e) new) → (IsErrOf result OutOfMemory → new ≡ old) → length new.history ≡ length old.history
-step_long old step (Ok reply) new done refused memory = takes_long old step (Done reply) new done
-step_long old step (Err OutOfMemory) new done refused memory = ap (λ (m : Machine). length m.history) (memory refl)
-step_long old step (Err NoSuchProcess) new done refused memory = takes_long old step (Refused NoSuchProcess) new (refused (λ e. cc e))
-step_long old step (Err TapeFull) new done refused memory = takes_long old step (Refused TapeFull) new (refused (λ e. cc e))
-step_long old step (Err NoSuchCheck) new done refused memory = takes_long old step (Refused NoSuchCheck) new (refused (λ e. cc e))
-step_long old step (Err StateTooLong) new done refused memory = takes_long old step (Refused StateTooLong) new (refused (λ e. cc e))
-step_long old step (Err InitialDamage) new done refused memory = takes_long old step (Refused InitialDamage) new (refused (λ e. cc e))
-step_long old step (Err AlreadyDamaged) new done refused memory = takes_long old step (Refused AlreadyDamaged) new (refused (λ e. cc e))
-step_long old step (Err ToSelf) new done refused memory = takes_long old step (Refused ToSelf) new (refused (λ e. cc e))
-step_long old step (Err LinkEmpty) new done refused memory = takes_long old step (Refused LinkEmpty) new (refused (λ e. cc e))
-step_long old step (Err BadPick) new done refused memory = takes_long old step (Refused BadPick) new (refused (λ e. cc e))
-step_long old step (Err RoundOpen) new done refused memory = takes_long old step (Refused RoundOpen) new (refused (λ e. cc e))
-step_long old step (Err NothingToTurn) new done refused memory = takes_long old step (Refused NothingToTurn) new (refused (λ e. cc e))
-step_long old step (Err WrongMode) new done refused memory = takes_long old step (Refused WrongMode) new (refused (λ e. cc e))
-step_long old step (Err NoMoreRounds) new done refused memory = takes_long old step (Refused NoMoreRounds) new (refused (λ e. cc e))
-step_long old step (Err NoMoreIncarnations) new done refused memory = takes_long old step (Refused NoMoreIncarnations) new (refused (λ e. cc e))
-step_long old step (Err BarNotLower) new done refused memory = takes_long old step (Refused BarNotLower) new (refused (λ e. cc e))
+step_long old step result new done refused memory =
+    whatever (length new.history ≡ length old.history) (λ answer. Takes old step answer new) (λ answer. takes_long old step answer new) result done refused (λ out. ap (λ (m : Machine). length m.history) (memory out))
 
 pub starts_shaped : (n : ℕ) (mode : Mode) → IsShaped (start n mode)
 starts_shaped n mode =

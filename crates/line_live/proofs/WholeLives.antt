@@ -56,7 +56,7 @@ with_room old step (Refused e) new takes = takes
 not_some : (e : StepError) → Some e ≡ None → ⊥
 not_some e wrong = absurd (cc)
 
-abbrev DamagesInitial : Floor → Step → Type 0
+abbrev pub DamagesInitial : Floor → Step → Type 0
 DamagesInitial floor step = (at : ℕ) × (step ≡ Damage at 0)
 
 spares_damage : (floor : Floor) (at c : ℕ) → floor_refusal floor (Damage at c) ≡ None → SparesFloor floor (Damage at c) ⊎ DamagesInitial floor (Damage at c)
@@ -70,14 +70,14 @@ spares_damage floor at c none = elim (cases_lt (floor_check floor at) c) [
   ]
 ]
 
-spares_bar : (floor : Floor) (at c : ℕ) → floor_refusal floor (Bar at c) ≡ None → floor_check floor at ≤ c
+pub spares_bar : (floor : Floor) (at c : ℕ) → floor_refusal floor (Bar at c) ≡ None → floor_check floor at ≤ c
 spares_bar floor at c none = ltb-false c (floor_check floor at) (off (nat_lt c (floor_check floor at)) none)
   where
     off : (b : Bool) → cond b (Some NoSuchCheck) None ≡ None → b ≡ false
     off true e = absurd (not_some NoSuchCheck e)
     off false e = refl
 
-spares : (floor : Floor) (step : Step) → floor_refusal floor step ≡ None → SparesFloor floor step ⊎ DamagesInitial floor step
+pub spares : (floor : Floor) (step : Step) → floor_refusal floor step ≡ None → SparesFloor floor step ⊎ DamagesInitial floor step
 spares floor (Send from to body) none = inl tt
 spares floor (Deliver from to pick state) none = inl tt
 spares floor (Check at state) none = inl tt

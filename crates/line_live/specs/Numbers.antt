@@ -1,6 +1,6 @@
 -- Numbers that are few enough to be brought back, and what a machine that lets go keeps true of
 -- them.
-use Rattle.std.specs.Prelude.{◌≡◌, ◌≤◌, ℕ, Bool, true, false, All, map}
+use Rattle.std.specs.Prelude.{◌≡◌, ◌≤◌, ℕ, Bool, true, false, All, length, map}
 use Rattle.std.specs.Global.{Vec}
 use Rattle.std.proofs.Common.{sym, ◌∙◌}
 use Rattle.std.proofs.lemmas.List.{length-map}
@@ -11,8 +11,9 @@ use Rattle.line_names.specs.declared.messages.MsgName.{MsgName}
 use Rattle.line_names.specs.Lines.{choice_at}
 use Rattle.line_tape.specs.declared.limits.TheConstants.{MOST_EVENTS}
 use Rattle.line_plan.specs.declared.plans.Plan.{Plan}
-use Rattle.line_steps.specs.declared.modes.Mode.{Mode}
 use Rattle.line_steps.specs.declared.modes.Mode.TheVariants.{Fifo}
+use Rattle.line_moves.specs.Listed.{ListedRound}
+use Rattle.line_world.specs.Machine.{Machine}
 use Rattle.line_world.specs.declared.replies.Reply.{Reply}
 use Rattle.line_world.specs.declared.replies.Reply.TheVariants.{Sent, Took, Marked, Stale, Repeated}
 use Rattle.line_world.specs.declared.replies.Reply.TheVariants.{Checked, Begun, Turned, Damaged}
@@ -20,7 +21,7 @@ use Rattle.line_world.specs.declared.replies.Reply.TheVariants.{Barred, Recovere
 use Rattle.line_cuts.specs.Cuts.{Floor}
 use Rattle.line_cuts.specs.Floors.{HasNumbers}
 use Rattle.line_live.specs.Lived.{LetsNothingGo}
-use Rattle.line_live.specs.Resumed.{IsFloorOfAll}
+use Rattle.line_live.specs.Resumed.{AreChecks, HasFloor, IsFloorOfAll}
 
 -- the number of the message is one that a tape may have
 abbrev pub IsFewName : MsgName → Type 0
@@ -56,13 +57,16 @@ IsFewReply (Damaged at check) = check ≤ MOST_EVENTS
 IsFewReply (Barred at check) = check ≤ MOST_EVENTS
 IsFewReply (Recovered plan states incarnations) = IsFewPlan plan.value
 
--- there are numbers for what was let go of each of n processes, which is nothing unless something
--- was forgotten, and that is only where links keep their order
-pub record IsTallied (floor : Floor) (forgot : Bool) (mode : Mode) (n : ℕ) : Type 0 where
+-- there are numbers for what was let go of each process, which is nothing unless something was
+-- forgotten, and that is only where links keep their order; what is kept has the floor, which
+-- survives there, and no check of a listed round is an initial state
+pub record IsTallied (floor : Floor) (forgot : Bool) (kept : Machine) : Type 0 where
   pub numbers : HasNumbers floor
-  pub of_all : IsFloorOfAll n floor
+  pub of_all : IsFloorOfAll (length kept.history) floor
   pub none : forgot ≡ false → LetsNothingGo floor
-  pub fifo : forgot ≡ true → mode ≡ Fifo
+  pub fifo : forgot ≡ true → kept.mode ≡ Fifo
+  pub held : HasFloor kept.history kept.marks floor
+  pub checked : All (λ (round : ListedRound). AreChecks round.checks) kept.rounds
 
 -- the list in the same block, with each element mapped
 abbrev pub mapped_in_place : {X : Type 0} → (X → X) → Vec X → Vec X

@@ -10,12 +10,12 @@ use Rattle.line_steps.specs.declared.modes.Mode.TheVariants.{Fifo}
 use Rattle.line_moves.specs.Listed.{ListedRound, channel_table}
 use Rattle.line_world.specs.Idle.{IsIdle}
 use Rattle.line_world.specs.Machine.{Machine}
-use Rattle.line_cuts.specs.Cuts.{Floor}
+use Rattle.line_cuts.specs.Cuts.{Floor, FloorSurvives, IsFloor, cut_checks}
 use Rattle.line_cuts.specs.Floors.{HasNumbers, LacksNumbers}
 use Rattle.line_live.specs.declared.refusals.ResumeError.{ResumeError}
 use Rattle.line_live.specs.declared.refusals.ResumeError.TheVariants.{OutOfMemory, ForeignFloor}
 use Rattle.line_live.specs.declared.refusals.ResumeError.TheVariants.{NoMoreNumbers, NotIdle}
-use Rattle.line_live.specs.declared.refusals.ResumeError.TheVariants.{NotConsistent}
+use Rattle.line_live.specs.declared.refusals.ResumeError.TheVariants.{FloorLost, NotConsistent}
 use Rattle.line_live.specs.declared.refusals.ResumeError.TheVariants.{RoundsDisordered}
 
 -- a listed round by its number and its check of each process
@@ -57,31 +57,56 @@ pub record AreByNumber (last : ℕ) (rounds : List CheckedRound) : Type 0 where
   pub begun : All (λ (round : CheckedRound). round.number ≤ last) rounds
   pub ascending : AllPairs (λ (a b : CheckedRound). a.number < b.number) rounds
 
--- the checks of the round make a consistent line
+-- the floor in what is kept: of a process that has one its first check, else its initial state
+abbrev pub kept_floor : Floor → Floor
+kept_floor floor = record {
+  checks = cut_checks floor floor.checks;
+  sends = [];
+  round = floor.round;
+}
+
+-- what is kept has the floor, and it survives there, whoever failed
+pub record HasFloor (history : List Process) (marks : MarksView) (floor : Floor) : Type 0 where
+  pub is : IsFloor history (kept_floor floor)
+  pub stays : FloorSurvives history marks (kept_floor floor)
+
+-- none of the checks is an initial state
+abbrev pub AreChecks : List ℕ → Type 0
+AreChecks checks = All (λ check. 1 ≤ check) checks
+
+-- the checks of the round make a consistent line, and none is an initial state
 pub record IsConsistentRound (history : List Process) (round : CheckedRound) : Type 0 where
+  pub checked : AreChecks round.checks
   pub line : IsLine history (check_line round.checks)
   pub consistent : IsConsistent history (check_line round.checks)
 
 -- a machine may be opened of these parts
-pub record IsResumable (history : List Process) (floor : Floor) (last : ℕ)
+pub record IsResumable (history : List Process) (marks : MarksView) (floor : Floor) (last : ℕ)
     (rounds : List CheckedRound) : Type 0 where
   pub of_all : IsFloorOfAll (length history) floor
   pub numbers : HasNumbers floor
   pub order : AreByNumber last rounds
   pub idle : IsIdle history last
+  pub held : HasFloor history marks floor
   pub consistent : All (IsConsistentRound history) rounds
 
 -- none is opened, by this cause: it holds, and none before it
-abbrev pub IsResumeRefused : List Process → Floor → ℕ → List CheckedRound → ResumeError → Type 0
-IsResumeRefused history floor last rounds OutOfMemory = ⊥
-IsResumeRefused history floor last rounds ForeignFloor = IsFloorOfAll (length history) floor → ⊥
-IsResumeRefused history floor last rounds NoMoreNumbers =
+abbrev pub IsResumeRefused : List Process → MarksView → Floor → ℕ → List CheckedRound → ResumeError
+    → Type 0
+IsResumeRefused history marks floor last rounds OutOfMemory = ⊥
+IsResumeRefused history marks floor last rounds ForeignFloor =
+    IsFloorOfAll (length history) floor → ⊥
+IsResumeRefused history marks floor last rounds NoMoreNumbers =
     IsFloorOfAll (length history) floor × LacksNumbers floor
-IsResumeRefused history floor last rounds RoundsDisordered =
+IsResumeRefused history marks floor last rounds RoundsDisordered =
     IsFloorOfAll (length history) floor × HasNumbers floor × (AreByNumber last rounds → ⊥)
-IsResumeRefused history floor last rounds NotIdle =
+IsResumeRefused history marks floor last rounds NotIdle =
     IsFloorOfAll (length history) floor × HasNumbers floor × AreByNumber last rounds
     × (IsIdle history last → ⊥)
-IsResumeRefused history floor last rounds NotConsistent =
+IsResumeRefused history marks floor last rounds FloorLost =
     IsFloorOfAll (length history) floor × HasNumbers floor × AreByNumber last rounds
-    × IsIdle history last × (All (IsConsistentRound history) rounds → ⊥)
+    × IsIdle history last × (HasFloor history marks floor → ⊥)
+IsResumeRefused history marks floor last rounds NotConsistent =
+    IsFloorOfAll (length history) floor × HasNumbers floor × AreByNumber last rounds
+    × IsIdle history last × HasFloor history marks floor
+    × (All (IsConsistentRound history) rounds → ⊥)

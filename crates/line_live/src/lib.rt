@@ -3,6 +3,7 @@
 #![tactic(auto)]
 
 mod forgets;
+mod held;
 mod kept_steps;
 mod laws;
 mod life_laws;

@@ -1,13 +1,13 @@
 //! The machine that lets go: it answers as the world does, and keeps no more than it needs.
-ghost use Rattle.std.specs.Prelude.{◌≡◌, ◌≢◌, ◌<◌, ◌↔◌, ◌⊎◌, None, Some, length, map, take};
-ghost use Rattle.std.specs.Prelude.{IfErr, IfOk, IsErrOf, IsOk, IsTrue, OnOk};
+ghost use Rattle.std.specs.Prelude.{◌≡◌, ◌≢◌, ◌<◌, ◌≤◌, ◌↔◌, ◌⊎◌, ℕ, None, Some, length, map};
+ghost use Rattle.std.specs.Prelude.{IfErr, IfOk, IsErrOf, IsOk, IsTrue, OnOk, take};
 ghost use Rattle.line_steps.specs.declared.modes.Mode.TheVariants.{Fifo};
 ghost use Rattle.line_steps.specs.Shown.{step_of_ref, HasShortBody};
 ghost use Rattle.line_world.specs.declared.replies.Answer.TheVariants.{Done, Refused};
 ghost use Rattle.line_world.specs.Machine.{is_open};
 ghost use Rattle.line_world.specs.Refusals.{has_stranger, refusal_of};
 ghost use Rattle.line_world.specs.Steps.{IsPlan};
-ghost use Rattle.line_cuts.specs.Cuts.{whole_floor, IsFloor};
+ghost use Rattle.line_cuts.specs.Cuts.{floor_check, whole_floor, FloorSurvives, IsFloor};
 ghost use Rattle.line_cuts.specs.Floors.{HasNumbers, LacksNumbers};
 ghost use Rattle.line_lives.specs.Lives.{cut_step, whole_plan};
 ghost use Rattle.line_live.specs.Forgets.{forget_refusal, idle_refusal};
@@ -52,7 +52,6 @@ impl Model for Live {
 
     ghost Value = { LiveMachine };
 
-    ghost use Rattle.std.specs.Prelude.{length};
     ghost use Rattle.line_live.specs.Numbers.{IsTallied};
 
     ghost view = { λ l. record {
@@ -60,7 +59,7 @@ impl Model for Live {
       kept = l.world;
     } };
 
-    ghost invariant = { λ l. IsTallied l.floor l.forgot l.world.mode (length l.world.history) };
+    ghost invariant = { λ l. IsTallied l.floor l.forgot l.world };
 }
 
 impl Live {
@@ -85,9 +84,10 @@ impl Live {
     /// and the listed rounds. Links keep their order, and no round is open.
     ///
     /// It asks whether links could lead to the tapes, at the cost of `is_idle`, which takes a byte
-    /// for each round up to the last one begun. For each listed round it looks at a vector of each
-    /// process and at what was sent and received since the round before, and `World::resume` makes
-    /// a queue for each pair of processes.
+    /// for each round up to the last one begun; and whether the floor survives, by a vector of each
+    /// process. For each listed round it looks at a vector of each process and at what was sent and
+    /// received since the round before, and `World::resume` makes a queue for each pair of
+    /// processes.
     pub fn resume(
         alloc: Global,
         catalogue: Catalogue,
@@ -99,11 +99,11 @@ impl Live {
         ensures kept { IfOk result (λ live. live.kept
             ≡ resumed_machine catalogue.processes catalogue.marks last_round rounds.now) }
         ensures resumable { OnOk result
-            (IsResumable catalogue.processes floor last_round rounds.now) }
+            (IsResumable catalogue.processes catalogue.marks floor last_round rounds.now) }
 
         // The refusals, in their order.
         ensures refused { IfErr result (λ e. e ≢ ResumeError.OutOfMemory
-            → IsResumeRefused catalogue.processes floor last_round rounds.now e) }
+            → IsResumeRefused catalogue.processes catalogue.marks floor last_round rounds.now e) }
         ensures memory { IsErrOf result ResumeError.OutOfMemory
             → IsFloorOfAll (length catalogue.processes) floor
             × HasNumbers floor × AreByNumber last_round rounds.now }
@@ -130,8 +130,8 @@ impl Live {
 
         // What is saved is opened as what it was.
         ensures resumable { OnOk result
-            (IsResumable self.now.kept.history self.now.floor self.now.kept.last_round
-            (map checks_in_round self.now.kept.rounds)) }
+            (IsResumable self.now.kept.history self.now.kept.marks self.now.floor
+            self.now.kept.last_round (map checks_in_round self.now.kept.rounds)) }
         ensures same { OnOk result
             (resumed_machine self.now.kept.history self.now.kept.marks self.now.kept.last_round
             (map checks_in_round self.now.kept.rounds) ≡ self.now.kept) }
@@ -276,13 +276,17 @@ impl Live {
         requires fifo { self.old.kept.mode ≡ Fifo }
         requires last { later.now.round ≡ self.old.kept.last_round }
         requires floor { IsFloor self.old.kept.history later.now }
+        requires stays { FloorSurvives self.old.kept.history self.old.kept.marks later.now }
         requires count { length later.now.sends ≡ length self.old.kept.history }
+        requires further { (p : ℕ) → 1 ≤ floor_check self.old.floor p
+            → 1 ≤ floor_check later.now p }
         ensures done { IsOk result → LetsGo self.old later.now self.new }
         ensures same { IfErr result (λ _. self.new ≡ self.old) }
         ensures refused { IfErr result (λ e. e ≢ ForgetError.OutOfMemory
             → LacksNumbers (whole_floor self.old.floor later.now)
             × (e ≡ ForgetError.NoMoreNumbers)) }
     {
+        let _history = self.world.history();
         let floor = match whole_floor(alloc, &self.floor, later)? {
             Some(floor) => floor,
             None => return Err(ForgetError::NoMoreNumbers),

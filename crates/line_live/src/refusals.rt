@@ -72,8 +72,12 @@ pub enum ResumeError {
     /// later than the last round begun.
     #[error("the tapes are not those of processes between which no round is open")]
     NotIdle,
-    /// The checks of a listed round make no consistent line.
-    #[error("the checks of a listed round make no consistent line")]
+    /// The checks that the processes begin with are not all there, one is damaged, a process is
+    /// barred before its own, or they make no consistent line.
+    #[error("the checks that the processes begin with are lost")]
+    FloorLost,
+    /// The checks of a listed round make no consistent line, or one is an initial state.
+    #[error("the checks of a listed round make no consistent line, or one is an initial state")]
     NotConsistent,
 }
 

@@ -1,26 +1,26 @@
 //! The parts that a machine is opened anew of, and what refuses them.
 ghost use Rattle.std.specs.Prelude.{◌≡◌, ◌≢◌, ◌↔◌, ℕ, false, true, All, IfErr, IfOk, IsErrOf};
 ghost use Rattle.std.specs.Prelude.{IsTrue, OnOk, length, map, slice_index_or};
-ghost use Rattle.line_tape.specs.Line.{IsConsistent, IsLine};
+ghost use Rattle.line_tape.specs.Line.{IsLine};
 ghost use Rattle.line_tape.specs.Rounds.{check_line};
-ghost use Rattle.line_vectors.specs.Reach.{sents_of};
 ghost use Rattle.line_steps.specs.declared.modes.Mode.TheVariants.{Fifo};
+ghost use Rattle.line_moves.specs.Listed.{ListedRound};
 ghost use Rattle.line_world.specs.Idle.{IsIdle};
 ghost use Rattle.line_world.specs.Machine.{is_open};
 ghost use Rattle.line_cuts.specs.Floors.{HasNumbers};
 ghost use Rattle.line_live.specs.Lived.{LetsNothingGo};
 ghost use Rattle.line_live.specs.Resumed.{checks_in_round, resumed_round, AreByNumber};
-ghost use Rattle.line_live.specs.Resumed.{IsConsistentRound, IsFloorOfAll, IsResumeRefused};
+ghost use Rattle.line_live.specs.Resumed.{AreChecks, HasFloor, IsConsistentRound, IsFloorOfAll};
+ghost use Rattle.line_live.specs.Resumed.{IsResumeRefused};
 
+use crate::held::{has_floor, is_consistent_at};
 use crate::listed::line_of_checks;
 use crate::refusals::ResumeError;
 use line_catalogue::Catalogue;
 use line_colours::{Channels, SharedChannels};
 use line_cuts::OwnedFloor;
 use line_moves::{Listing, Round};
-use line_names::{Line, ProcId};
 use line_tape::is_line;
-use line_vectors::Sent;
 use line_world::{World, is_idle};
 use std::alloc::{AllocError, Global};
 use std::marker::Model;
@@ -99,38 +99,19 @@ fn are_by_number(last: u32, rounds: &[RoundChecks]) -> bool
     true
 }
 
-/// How many sends of each process stand before its choice of a line.
-fn sents_before(alloc: Global, catalogue: &Catalogue, line: &Line) -> Result<Sent, AllocError>
-    requires { IsLine catalogue.now.processes line.now }
-    ensures { IfOk result (λ sent. sent ≡ sents_of catalogue.now.processes line.now) }
+/// Whether none of some checks is an initial state.
+fn are_checks(checks: &[u32]) -> bool
+    ensures { IsTrue result ↔ AreChecks checks.now }
 {
-    let n = catalogue.n();
-    let mut sent = Sent::new(alloc, n)?;
-    for q in 0..n {
-        let p = ProcId::try_new(q, n).unwrap();
-        sent.set(p, catalogue.history().tape(p).sends_before(line.at(p)));
-    }
-    Ok(sent)
-}
-
-/// Whether a line of a catalogue is consistent. It looks at a vector of each process.
-fn is_consistent_at(alloc: Global, catalogue: &Catalogue, line: &Line) -> Result<bool, AllocError>
-    requires { IsLine catalogue.now.processes line.now }
-    ensures { IfOk result
-        (λ consistent. IsTrue consistent ↔ IsConsistent catalogue.now.processes line.now) }
-{
-    let n = catalogue.n();
-    let sent = sents_before(alloc, catalogue, line)?;
-    'each: for q in 0..n {
-        let p = ProcId::try_new(q, n).unwrap();
-        if !catalogue.reach(p, line.at(p)).fits(&sent) {
-            return Ok(false);
+    'each: for check in checks {
+        if *check == 0 {
+            return false;
         }
     }
-    Ok(true)
+    true
 }
 
-/// Whether the checks of a round make a consistent line.
+/// Whether the checks of a round make a consistent line, and none is an initial state.
 fn is_consistent_round(
     alloc: Global,
     catalogue: &Catalogue,
@@ -140,6 +121,9 @@ fn is_consistent_round(
         IsTrue consistent ↔ IsConsistentRound catalogue.now.processes round.now) }
 {
     if round.checks.len() != catalogue.n() as usize {
+        return Ok(false);
+    }
+    if !are_checks(&round.checks) {
         return Ok(false);
     }
     let line = line_of_checks(&round.checks);
@@ -211,8 +195,11 @@ pub(crate) fn test_parts(
     ensures numbers { OnOk result (HasNumbers floor.now) }
     ensures order { OnOk result (AreByNumber last rounds.now) }
     ensures idle { OnOk result (IsIdle catalogue.now.processes last) }
+    ensures held { OnOk result
+        (HasFloor catalogue.now.processes catalogue.now.marks floor.now) }
     ensures refused { IfErr result (λ e. e ≢ ResumeError.OutOfMemory
-        → IsResumeRefused catalogue.now.processes floor.now last rounds.now e) }
+        → IsResumeRefused catalogue.now.processes catalogue.now.marks floor.now last
+        rounds.now e) }
     ensures memory { IsErrOf result ResumeError.OutOfMemory
         → IsFloorOfAll (length catalogue.now.processes) floor.now
         × HasNumbers floor.now × AreByNumber last rounds.now }
@@ -229,12 +216,16 @@ pub(crate) fn test_parts(
     if !is_idle(alloc, catalogue.history(), last)? {
         return Err(ResumeError::NotIdle);
     }
+    if !has_floor(alloc, catalogue, floor)? {
+        return Err(ResumeError::FloorLost);
+    }
     Ok(())
 }
 
 /// Looks at each listed round of a world: its checks are what tells it. Where links keep their
 /// order and no round is open, the world can be opened anew.
 pub(crate) fn look_at_rounds(world: &World)
+    requires checked { All (λ (round : ListedRound). AreChecks round.checks) world.now.rounds }
     ensures idle { world.now.mode ≡ Fifo → is_open world.now ≡ false
         → IsIdle world.now.history world.now.last_round }
     ensures order { AreByNumber world.now.last_round (map checks_in_round world.now.rounds) }

@@ -16,7 +16,7 @@ pub returns-clause-order : goal.returns-clause-order
 returns-clause-order c = told_in_order c.args.world.now.last_round c.args.world.now.rounds c.last_round-last_round.ensures.numbered
 
 pub returns-clause-consistent : goal.returns-clause-consistent
-returns-clause-consistent c = told_consistent c.args.world.now.history c.args.world.now.rounds c.rounds-rounds.ensures.snapshots
+returns-clause-consistent c = told_consistent c.args.world.now.history c.args.world.now.rounds c.rounds-rounds.ensures.snapshots c.requires.checked
 
 pub returns-clause-same : goal.returns-clause-same
 returns-clause-same c =

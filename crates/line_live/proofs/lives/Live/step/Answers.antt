@@ -1,6 +1,5 @@
 -- As long as nothing was let go, the world that is kept answers.
-use Rattle.std.proofs.Common.{◌≢◌, sym, ◌∙◌, subst}
-use Rattle.std.proofs.lemmas.Bool.{false≢true}
+use Rattle.std.proofs.Common.{◌≢◌, subst}
 use Rattle.std.proofs.lemmas.Result.{IfErr-weaker, IfOk-weaker}
 use Rattle.line_steps.specs.declared.steps.Step.{Step}
 use Rattle.line_world.specs.declared.replies.Answer.TheVariants.{Done, Refused}
@@ -12,8 +11,7 @@ use Rattle.line_world.specs.Runs.{Takes}
 use Rattle.line_cuts.specs.Cuts.{Floor}
 use Rattle.line_live.specs.Lives.{LiveMachine, TakesLive}
 use Rattle.line_live.proofs.FirstFloors.{takes_none}
-use Rattle.line_live.proofs.LiveSteps.{living, still_tallied}
-use Rattle.line_live.proofs.ShapedMachines.{step_long}
+use Rattle.line_live.proofs.LiveSteps.{living, tallied_first, tallied_live}
 use Rattle.line_live.proofs.lives.Live.step.Goals as goal
 
 pub returns-clause-done : goal.returns-clause-done
@@ -35,9 +33,9 @@ returns-clause-refused c =
     (λ e refused other. subst (λ (m : LiveMachine). TakesLive m step (Refused e) (living floor new)) c.self.view_is (takes_none floor (c.self.invariant.none c.if-self.false) old new step (Refused e) (refused other))) c.step.ensures.refused
 
 pub invariant_of-self : goal.invariant_of-self
-invariant_of-self c = still_tallied c.self.inside.floor c.self.inside.forgot c.self.inside.world c.step_of_kept.new.world c.self.invariant (λ _. c.step_of_kept.ensures.mode) c.step_of_kept.ensures.count
+invariant_of-self c =
+    tallied_live c.self.inside.floor c.self.inside.forgot c.self.inside.world c.self.invariant c.args.step.now c.step_of_kept.new.world c.step_of_kept.result c.step_of_kept.ensures.done c.step_of_kept.ensures.refused c.step_of_kept.ensures.memory
 
 pub invariant_of-self-2 : goal.invariant_of-self-2
 invariant_of-self-2 c =
-    still_tallied c.self.inside.floor c.self.inside.forgot c.self.inside.world c.step.new.self c.self.invariant (λ t. absurd (false≢true (sym c.if-self.false ∙ t)))
-    (step_long c.self.inside.world c.args.step.now c.step.result c.step.new.self c.step.ensures.done c.step.ensures.refused c.step.ensures.memory)
+    tallied_first c.self.inside.floor c.self.inside.forgot c.self.inside.world c.self.invariant (c.self.invariant.none c.if-self.false) c.args.step.now c.step.new.self c.step.result c.step.ensures.done c.step.ensures.refused c.step.ensures.memory

@@ -1,6 +1,5 @@
 -- As long as nothing was let go, the world that is kept answers.
-use Rattle.std.proofs.Common.{◌≢◌, sym, ◌∙◌, subst}
-use Rattle.std.proofs.lemmas.Bool.{false≢true}
+use Rattle.std.proofs.Common.{◌≢◌, subst}
 use Rattle.std.proofs.lemmas.Result.{IfErr-weaker, IfOk-weaker}
 use Rattle.line_steps.specs.declared.steps.Step.{Step}
 use Rattle.line_steps.specs.Shown.{step_of_ref}
@@ -13,8 +12,7 @@ use Rattle.line_world.specs.Runs.{Takes}
 use Rattle.line_cuts.specs.Cuts.{Floor}
 use Rattle.line_live.specs.Lives.{LiveMachine, TakesLive}
 use Rattle.line_live.proofs.FirstFloors.{takes_none}
-use Rattle.line_live.proofs.LiveSteps.{living, still_tallied}
-use Rattle.line_live.proofs.ShapedMachines.{step_long}
+use Rattle.line_live.proofs.LiveSteps.{living, tallied_first, tallied_live}
 use Rattle.line_live.proofs.lives.Live.step_lent.Goals as goal
 
 pub returns-clause-done : goal.returns-clause-done
@@ -36,9 +34,9 @@ returns-clause-refused c =
     (λ e refused other. subst (λ (m : LiveMachine). TakesLive m step (Refused e) (living floor new)) c.self.view_is (takes_none floor (c.self.invariant.none c.if-self.false) old new step (Refused e) (refused other))) c.step_lent.ensures.refused
 
 pub invariant_of-self : goal.invariant_of-self
-invariant_of-self c = still_tallied c.self.inside.floor c.self.inside.forgot c.self.inside.world c.step_kept.new.world c.self.invariant (λ _. c.step_kept.ensures.mode) c.step_kept.ensures.count
+invariant_of-self c =
+    tallied_live c.self.inside.floor c.self.inside.forgot c.self.inside.world c.self.invariant (step_of_ref c.args.step.now) c.step_kept.new.world c.step_kept.result c.step_kept.ensures.done c.step_kept.ensures.refused c.step_kept.ensures.memory
 
 pub invariant_of-self-2 : goal.invariant_of-self-2
 invariant_of-self-2 c =
-    still_tallied c.self.inside.floor c.self.inside.forgot c.self.inside.world c.step_lent.new.self c.self.invariant (λ t. absurd (false≢true (sym c.if-self.false ∙ t)))
-    (step_long c.self.inside.world (step_of_ref c.args.step.now) c.step_lent.result c.step_lent.new.self c.step_lent.ensures.done c.step_lent.ensures.refused c.step_lent.ensures.memory)
+    tallied_first c.self.inside.floor c.self.inside.forgot c.self.inside.world c.self.invariant (c.self.invariant.none c.if-self.false) (step_of_ref c.args.step.now) c.step_lent.new.self c.step_lent.result c.step_lent.ensures.done c.step_lent.ensures.refused c.step_lent.ensures.memory

@@ -1,6 +1,6 @@
 use Rattle.std.proofs.Common.{◌≡◌, ◌<◌, ℕ, length, get_or}
 use Rattle.line_vectors.specs.Reach.{sent_count}
-use Rattle.line_live.proofs.resumed.sents_before.Given as goal
+use Rattle.line_live.proofs.held.sents_before.Given as goal
 
 abbrev pub invariant-loop-q : goal.invariant-loop-q
 invariant-loop-q l = record {

@@ -5,7 +5,7 @@ use Rattle.line_tape.specs.History.{Process}
 use Rattle.line_vectors.specs.Reach.{sents_of}
 use Rattle.line_vectors.proofs.ReachLemmas.{sents-at}
 use Rattle.line_vectors.proofs.ReachLemmas.{length-sents}
-use Rattle.line_live.proofs.resumed.sents_before.Goals as goal
+use Rattle.line_live.proofs.held.sents_before.Goals as goal
 
 pub returns : goal.returns
 returns c =

@@ -7,7 +7,7 @@ use Rattle.line_tape.specs.History.{Process}
 use Rattle.line_tape.specs.Line.{events_before, AreSentBefore}
 use Rattle.line_tape.proofs.LineLemmas.{IsConsistent-below}
 use Rattle.line_live.proofs.ResumedLemmas.{fits_sent}
-use Rattle.line_live.proofs.resumed.is_consistent_at.Goals as goal
+use Rattle.line_live.proofs.held.is_consistent_at.Goals as goal
 
 pub returns-then-not-fits : goal.returns-then-not-fits
 returns-then-not-fits c =
