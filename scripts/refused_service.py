@@ -4,7 +4,6 @@ They run under the library of `preloaded.c`, with a file as their standard input
 how much of it they have read.
 """
 
-import copy
 import errno
 import os
 import re
@@ -68,35 +67,15 @@ def answers_of(output: bytes) -> Iterator[bytes]:
         raise Difference(f"the output ends in an answer: {shown(begun[-100:])}")
 
 
-def without_its_text(services: Sequence[Service]) -> Iterator[Service]:
-    """Those that read the text of a saved machine, each without what it has read of that."""
-    for it in services:
-        if it.saved is not None:
-            other = copy.copy(it)
-            other.saved = None
-            yield other
-
-
-def those_that_answer(
-    services: Sequence[Service], line: bytes, got: bytes, at: int
-) -> list[Service]:
-    """The services that answer a line so, of which there has to be one."""
-    told = [it.take(line) + (b"" if line.endswith(b"\n") else it.end()) for it in services]
-    if got not in told:
-        same(got, told[0], at)
-    return [it for it, wanted in zip(services, told) if wanted == got]
-
-
 def same_but_refused(text: bytes, ran: Ran, model: Callable[[], Service]) -> int:
     """Asks for the answers to a text, in which memory may have been refused; how often it was.
 
-    The records that were refused it have changed nothing, and each other one has its whole answer.
-    But a record of a saved machine that is refused memory drops what was read of that, unless it
-    is its line that had none, which cannot be told from here.
+    The records that were refused it have changed nothing, but that what was read of a saved machine
+    is dropped, and each other one has its whole answer.
     """
     if ran.status not in (0, 1, 2):
         raise Difference(f"its status is {ran.status}, and it says {shown(ran.said)}")
-    services = [model()]
+    service = model()
     answers = answers_of(ran.output)
     refused = at = 0
     *ended, rest = text.split(b"\n")
@@ -106,12 +85,12 @@ def same_but_refused(text: bytes, ran: Ran, model: Callable[[], Service]) -> int
         got = next(answers, b"")
         if got == NO_MEMORY:
             refused += 1
-            services += list(without_its_text(services))
+            service.miss()
         else:
-            services = those_that_answer(services, line, got, at)
+            same(got, service.take(line) + (b"" if line.endswith(b"\n") else service.end()), at)
         at += len(got)
     same(next(answers, b""), b"", at)
-    wanted_status = 2 if refused else services[0].status
+    wanted_status = 2 if refused else service.status
     if (ran.said, ran.status) != (b"", wanted_status):
         said = f"it says {shown(ran.said)}"
         raise Difference(f"its status is {ran.status} and not {wanted_status}, and {said}")

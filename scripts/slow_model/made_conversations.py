@@ -119,10 +119,7 @@ def good_records(text: bytes, model: type[Service]) -> tuple[bytes, bytes]:
     *ended, rest = text.split(b"\n")
 
     def answered(line: bytes, answer: bytes) -> None:
-        """Before there is a machine, a record's fault drops what was read of one that was saved.
-
-        A line that is no record drops nothing.
-        """
+        """Before there is a machine, a fault drops what was read of one that was saved."""
         if answer and not answer.startswith(b"fault,"):
             good.append((line + b"\n", answer[:-1]))
         elif answer and service.begins():

@@ -44,7 +44,10 @@ class Service:
         return self.answer_to(self.line_with(b""), b"")
 
     def answer_to(self, line: bytes, may_end: bytes) -> bytes:
-        """The answer to a line, nothing to an empty one; these bytes at its end are not read."""
+        """The answer to a line, nothing to an empty one; these bytes at its end are not read.
+
+        Any fault, of a record or of a line that is none, drops what was read of a saved machine.
+        """
         try:
             want(len(line) <= MOST_LINE, 32)
             line = line.removesuffix(may_end)
@@ -53,6 +56,7 @@ class Service:
             want(LINE.fullmatch(line), 32)
             records, status = self.record(line.decode("ascii").split(","))
         except Fault as fault:
+            self.miss()
             records, status = [("fault", fault.code, NAMES[fault.code])], 2
         self.status = max(self.status, status)
         return written(records) + b"\n"
@@ -69,6 +73,10 @@ class Service:
         """Drops the machine."""
         self.world = None
 
+    def miss(self) -> None:
+        """Drops what was read of a saved machine, as a record was not taken."""
+        self.saved = None
+
     def record(self, fields: list[str]) -> tuple[Records, int]:
         """The records of an answer, and 1 where it is a refusal."""
         if self.world is None:
@@ -78,10 +86,7 @@ class Service:
         return records, int(is_refusal)
 
     def begin(self, fields: list[str]) -> None:
-        """Takes a record before there is a machine: of a text that was saved, or the first one.
-
-        A record of a text that has a fault drops what was read of the text.
-        """
+        """Takes a record before there is a machine: of a text that was saved, or the first one."""
         if self.saved is None:
             begun = begun_by(fields)
             if isinstance(begun, Saved):
@@ -89,9 +94,6 @@ class Service:
             else:
                 self.world = begun
             return
-        saved, self.saved = self.saved, None
-        saved.read(fields)
-        if saved.is_whole:
-            self.world = saved.world()
-        else:
-            self.saved = saved
+        self.saved.read(fields)
+        if self.saved.is_whole:
+            self.world, self.saved = self.saved.world(), None

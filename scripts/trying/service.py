@@ -59,7 +59,6 @@ FORGETS = 8
 # So many cases a processor tries at least.
 FEWEST = 10
 SILENCE = re.compile(b"")
-OF_SAVED = re.compile(rb"^history,0*4,", re.MULTILINE)
 FAILURES = (Difference, OSError, subprocess.SubprocessError)
 
 
@@ -73,17 +72,6 @@ class Tried(NamedTuple):
     seed: int
 
 
-def plain_input(job: Job, chance: random.Random, is_plain: bool) -> bytes:
-    """An input; a plain one has no text of a machine that was saved.
-
-    Where such a text is refused memory it is not known from outside how much of it is dropped.
-    """
-    while True:
-        text = job.some_input(chance)
-        if not is_plain or not OF_SAVED.search(text):
-            return text
-
-
 class Case:
     """An input of the generator, and how it is given."""
 
@@ -92,8 +80,7 @@ class Case:
         self.chance = random.Random(f"service {tried.seed} {case}")
         ways = WAYS + NATIVE_WAYS if tried.library else WAYS
         self.way = self.chance.choice(ways)
-        is_plain = self.way is Case.growths
-        self.text = plain_input(tried.job, self.chance, is_plain)
+        self.text = tried.job.some_input(self.chance)
 
     def answers_to(self, pieces: list[bytes]) -> tuple[list[bytes], int]:
         """What the model answers to each piece and to the end of the input, and its status."""
@@ -254,7 +241,7 @@ def try_long(tried: Tried, size: int, name: str) -> Result:
 
 def try_growths(tried: Tried, number: int) -> Result:
     """Refuses each request for memory of an input, one in a run."""
-    text = plain_input(tried.job, random.Random(f"growths {tried.seed} {number}"), True)
+    text = tried.job.some_input(random.Random(f"growths {tried.seed} {number}"))
     words = (tried.command, tried.library, text)
     counted = []
     growth = 0

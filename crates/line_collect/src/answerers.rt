@@ -140,6 +140,8 @@ impl Answerer for Collecting {
 
     ghost faulted = { Faulted };
 
+    ghost missed = { λ _ old. old };
+
     fn answer<K: Sink>(
         &mut self,
         row: &FieldRow<'_>,
@@ -155,6 +157,8 @@ impl Answerer for Collecting {
             writer,
         )
     }
+
+    fn miss(&mut self, _error: ReadError) {}
 
     ghost bad_record = { fault_of_no_report };
 

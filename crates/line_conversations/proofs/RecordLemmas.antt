@@ -40,14 +40,14 @@ module _ {S A : Type 0} (rules : Rules S A) where
   -- a fault, whose text is put
   pub fault_answered : (faulted : ReadError → A) → ((error : ReadError) → rules.records (faulted error) ≡ fault_record (error_code error) ∷ [])
       → ((error : ReadError) → rules.outcome (faulted error) ≡ outcomes.Faulted) → (old new : Spot S) (one : Result Record Fault) (error : ReadError) (taken now : Option (List ℕ))
-      → rules.hears old.state one (faulted error) old.state → new.state ≡ old.state → new.outcome ≡ outcomes.Faulted
+      → rules.hears old.state one (faulted error) new.state → new.outcome ≡ outcomes.Faulted
       → PutsButEnd taken now new.writer (old.writer ++ text_with_end (fault_record (error_code error) ∷ [])) → AnswersRecords rules old (one ∷ []) new taken now
-  fault_answered faulted records worst_is old new one error taken now heard same is put =
-      one_answered rules old new one (faulted error) taken now (subst (λ (m : S). rules.hears old.state one (faulted error) m) (sym same) heard)
+  fault_answered faulted records worst_is old new one error taken now heard is put =
+      one_answered rules old new one (faulted error) taken now heard
       (is ∙ sym (ap (worse old.outcome) (worst_is error) ∙ worse_faulted old.outcome))
       (subst (λ (rs : List Record). PutsButEnd taken now new.writer (old.writer ++ text_with_end rs)) (sym (records error)) put)
 
-  pub fault_front : (faulted : ReadError → A) → ((error : ReadError) → rules.records (faulted error) ≡ fault_record (error_code error) ∷ []) → (old : S) (held : List ℕ) (one : Result Record Fault) (error : ReadError) (taken now : Option (List ℕ))
-      → rules.hears old one (faulted error) old → PutsFront taken now (held ++ text_with_end (fault_record (error_code error) ∷ [])) → PutsAnswersFront rules old held (one ∷ []) taken now
-  fault_front faulted records old held one error taken now heard put =
-      one_front rules old old held one (faulted error) taken now heard (subst (λ (rs : List Record). PutsFront taken now (held ++ text_with_end rs)) (sym (records error)) put)
+  pub fault_front : (faulted : ReadError → A) → ((error : ReadError) → rules.records (faulted error) ≡ fault_record (error_code error) ∷ []) → (old new : S) (held : List ℕ) (one : Result Record Fault) (error : ReadError) (taken now : Option (List ℕ))
+      → rules.hears old one (faulted error) new → PutsFront taken now (held ++ text_with_end (fault_record (error_code error) ∷ [])) → PutsAnswersFront rules old held (one ∷ []) taken now
+  fault_front faulted records old new held one error taken now heard put =
+      one_front rules old new held one (faulted error) taken now heard (subst (λ (rs : List Record). PutsFront taken now (held ++ text_with_end rs)) (sym (records error)) put)

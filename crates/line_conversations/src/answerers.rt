@@ -13,7 +13,7 @@ ghost use Rattle.line_fields.specs.Records.{Record};
 use crate::outcomes::Outcome;
 use crate::stops::Stop;
 use line_devices::Sink;
-use line_fields::{FieldRow, RecordWriter};
+use line_fields::{FieldRow, ReadError, RecordWriter};
 
 /// Whoever answers the records of a conversation: it has a state, which a record may change, and
 /// says what each record is answered.
@@ -26,6 +26,9 @@ pub trait Answerer: Drop {
 
     /// The answer to a record that was not done, for this fault or since memory is out.
     ghost faulted: { ReadError → Answer };
+
+    /// The state once a record was missed, for this fault or since memory is out.
+    ghost missed: { ReadError → Self → Self };
 
     /// Does what the record of a row asks for, and writes its answer, but for the empty line that
     /// ends it, after what a writer holds.
@@ -47,12 +50,18 @@ pub trait Answerer: Drop {
         ensures blamed { IfErr result (λ stop. BlamesSink stop (K.faults sink.old)
             (K.faults sink.new)) };
 
+    /// Is told that a record was missed: its line is none, or memory was out before it was read.
+    fn miss(&mut self, error: ReadError)
+        ensures { self.new ≡ missed error self.old };
+
     // A line that is no record is a fault, and memory may be out for any record.
     ghost bad_record: { (s : Self)
-        → rules.hears s (Err BadRecord) (faulted (read_errors.Fault BadRecord)) s };
+        → rules.hears s (Err BadRecord) (faulted (read_errors.Fault BadRecord))
+        (missed (read_errors.Fault BadRecord) s) };
 
     ghost no_memory: { (s : Self) (one : Result Record Fault)
-        → rules.hears s one (faulted read_errors.OutOfMemory) s };
+        → rules.hears s one (faulted read_errors.OutOfMemory)
+        (missed read_errors.OutOfMemory s) };
 
     // A fault is told by one record, and is the worst outcome.
     ghost fault_records: { (error : ReadError)

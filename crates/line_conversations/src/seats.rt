@@ -27,27 +27,53 @@ pub(crate) struct Seat<C> {
     pub writer: RecordWriter,
 }
 
-/// Answers a record that was not done for this fault.
-pub(crate) fn answer_fault<C: Answerer, K: Sink>(
+/// Answers a record that was not done for this fault, from whatever state it led to the one that
+/// there is.
+fn tell_fault<C: Answerer, K: Sink>(
     seat: &mut Seat<C>,
     error: ReadError,
     sink: &mut K,
 ) -> Result<(), DeviceFault>
-    ensures ok { (one : Result Record Fault)
-        → C.rules.hears seat.old.answerer one (C.faulted error) seat.old.answerer
+    ensures ok { (before : C) (one : Result Record Fault)
+        → C.rules.hears before one (C.faulted error) seat.old.answerer
         → OnOk result (spec.AnswersRecords C.rules
-        (spec.spot seat.old.answerer seat.old.outcome seat.old.writer) (one ∷ [])
+        (spec.spot before seat.old.outcome seat.old.writer) (one ∷ [])
         (spec.spot seat.new.answerer seat.new.outcome seat.new.writer) (K.taken sink.old)
         (K.taken sink.new)) }
-    ensures err { (one : Result Record Fault)
-        → C.rules.hears seat.old.answerer one (C.faulted error) seat.old.answerer
-        → OnErr result (PutsAnswersFront C.rules seat.old.answerer seat.old.writer (one ∷ [])
+    ensures err { (before : C) (one : Result Record Fault)
+        → C.rules.hears before one (C.faulted error) seat.old.answerer
+        → OnErr result (PutsAnswersFront C.rules before seat.old.writer (one ∷ [])
         (K.taken sink.old) (K.taken sink.new)) }
     ensures sound { OnOk result (K.faults sink.new ≡ K.faults sink.old) }
     ensures failed { OnErr result (K.faults sink.new ≡ one_more (K.faults sink.old)) }
 {
     seat.outcome = Outcome::Faulted;
     put_fault(sink, &mut seat.writer, error)
+}
+
+/// Answers a record that was missed, for this fault.
+pub(crate) fn answer_fault<C: Answerer, K: Sink>(
+    seat: &mut Seat<C>,
+    error: ReadError,
+    sink: &mut K,
+) -> Result<(), DeviceFault>
+    ensures ok { (one : Result Record Fault)
+        → C.rules.hears seat.old.answerer one (C.faulted error)
+        (C.missed error seat.old.answerer)
+        → OnOk result (spec.AnswersRecords C.rules
+        (spec.spot seat.old.answerer seat.old.outcome seat.old.writer) (one ∷ [])
+        (spec.spot seat.new.answerer seat.new.outcome seat.new.writer) (K.taken sink.old)
+        (K.taken sink.new)) }
+    ensures err { (one : Result Record Fault)
+        → C.rules.hears seat.old.answerer one (C.faulted error)
+        (C.missed error seat.old.answerer)
+        → OnErr result (PutsAnswersFront C.rules seat.old.answerer seat.old.writer (one ∷ [])
+        (K.taken sink.old) (K.taken sink.new)) }
+    ensures sound { OnOk result (K.faults sink.new ≡ K.faults sink.old) }
+    ensures failed { OnErr result (K.faults sink.new ≡ one_more (K.faults sink.old)) }
+{
+    seat.answerer.miss(error);
+    tell_fault(seat, error, sink)
 }
 
 /// Answers the record whose fields a row has.
@@ -70,7 +96,7 @@ pub(crate) fn answer_record<C: Answerer, K: Sink>(
             seat.outcome = seat.outcome.worse(outcome);
             close_record(sink, &mut seat.writer)
         }
-        Err(Stop::Fault(error)) => answer_fault(seat, error, sink),
+        Err(Stop::Fault(error)) => tell_fault(seat, error, sink),
         Err(Stop::Write) => Err(DeviceFault),
     }
 }

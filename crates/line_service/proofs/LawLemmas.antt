@@ -20,14 +20,14 @@ use Rattle.line_fields.specs.Records.{Record, records_of_text}
 use Rattle.line_steps.specs.declared.modes.Mode.{Mode}
 use Rattle.line_scripts.specs.declared.commands.Command.{Command}
 use Rattle.line_scripts.specs.Scripts.{Script, command_in, commands_from, script_of, script_of_text, world_of}
-use Rattle.line_service.specs.Services.{ServiceAnswer, Began, Dropped, Faulted, Replied, ServiceState, Empty, Has, Reads, Hears, IsRunOf, service_answer_records, outcome_of, service_rules}
+use Rattle.line_service.specs.Services.{ServiceAnswer, Began, Dropped, Faulted, Replied, ServiceState, Empty, Has, Reads, Hears, IsRunOf, service_answer_records, outcome_of, service_rules, without_text}
 use Rattle.line_service.proofs.TextLemmas.{start_world}
 use Rattle.line_service.proofs.LengthLemmas.{length_told}
 use Rattle.line_live.specs.Lives.{LiveMachine, start_live}
 
 -- ---- faults
 
-pub same_behind_fault : (old new : ServiceState) (one : Result Record Fault) (error : ReadError) → Hears old one (Faulted error) new → new ≡ old
+pub same_behind_fault : (old new : ServiceState) (one : Result Record Fault) (error : ReadError) → Hears old one (Faulted error) new → new ≡ without_text old
 same_behind_fault Empty new one error h = h.1
 same_behind_fault (Reads place number) new one error h = h.1
 same_behind_fault (Has machine) new one error h = h.1

@@ -124,10 +124,16 @@ IsTextDropped place number r error =
     ((rest : List Record) → FailsText error (saved_left place number (r ∷ rest)))
     ⊎ IsUnopenedBy place number r error
 
+-- where a service is once nothing is left of the text of a saved machine
+abbrev pub without_text : ServiceState → ServiceState
+without_text Empty = Empty
+without_text (Reads place number) = Empty
+without_text (Has machine) = Has machine
+
 -- while the text of a saved machine is read, a record may be answered so
 abbrev pub GoesOnBy : SavedPlace → ℕ → Result Record Fault → ServiceAnswer → ServiceState → Type 0
 GoesOnBy place number one Began new = (r : Record) × (one ≡ Ok r) × GoesOn place number r new
-GoesOnBy place number one (Faulted error) new = Fails error one × (new ≡ Reads place number)
+GoesOnBy place number one (Faulted error) new = Fails error one × (new ≡ Empty)
 GoesOnBy place number one (Dropped error) new =
     (r : Record) × (one ≡ Ok r) × IsTextDropped place number r error × (new ≡ Empty)
 GoesOnBy place number one (Replied told) new = ⊥

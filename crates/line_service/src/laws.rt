@@ -20,7 +20,7 @@ ghost use Rattle.line_scripts.specs.Scripts.{Script, script_of_text};
 ghost use Rattle.line_service.specs.Services.{Began, Dropped, Empty, Faulted, Has, Hears};
 ghost use Rattle.line_service.specs.Services.{IsRunOf, Replied};
 ghost use Rattle.line_service.specs.Services.{ServiceAnswer, ServiceState, service_answer_records};
-ghost use Rattle.line_service.specs.Services.{service_rules};
+ghost use Rattle.line_service.specs.Services.{service_rules, without_text};
 
 /// However an input is cut into pieces, its answers are the same: what two pieces may be answered,
 /// one after the other, is what they may be answered as one.
@@ -51,11 +51,11 @@ pub fn scripts_are_served_as_they_run()
 {}
 
 /// A record that is answered by a fault, or by `OutOfMemory`, changes nothing: the machine is the
-/// one that there was, or there is still none. What was taken of a saved machine stays too, but for
-/// a fault in one of its own records, which drops it.
+/// one that there was, or there is still none. What was taken of the text of a saved machine is
+/// dropped, whether the record is one of the text or a line that is none.
 pub fn faults_change_nothing()
     ensures faulted { (old new : ServiceState) (one : Result Record Fault) (error : ReadError)
-        → Hears old one (Faulted error) new → new ≡ old }
+        → Hears old one (Faulted error) new → new ≡ without_text old }
     ensures dropped { (old new : ServiceState) (one : Result Record Fault) (error : TextError)
         → Hears old one (Dropped error) new → new ≡ Empty }
 {}

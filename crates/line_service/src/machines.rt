@@ -11,7 +11,7 @@ ghost use Rattle.line_fields.specs.Records.{Record};
 ghost use Rattle.line_service.specs.Served.{standing_of, IsText, IsUnended};
 ghost use Rattle.line_service.specs.Services.{ServiceState};
 ghost use Rattle.line_service.specs.Services.{Began, Dropped, Empty, Faulted, Has, Hears};
-ghost use Rattle.line_service.specs.Services.{service_rules, text_error_code};
+ghost use Rattle.line_service.specs.Services.{service_rules, text_error_code, without_text};
 ghost use Rattle.std.specs.Prelude.{codes, false, true};
 
 use crate::texts::{BegunText, begin_text, take_record};
@@ -272,6 +272,19 @@ fn answer_one<K: Sink>(
     }
 }
 
+/// Drops what was read of the text of a saved machine, if one is read.
+fn drop_text(served: &mut Served)
+    requires { IsUnended served.old }
+    ensures left { standing_of served.new ≡ without_text (standing_of served.old) }
+    ensures unended { IsUnended served.new }
+{
+    match served {
+        Served::Text(_) => *served = Served::Nothing,
+        Served::Machine(_) => {}
+        Served::Nothing => {}
+    }
+}
+
 impl ServedMachine {
     /// None yet: the first good record begins it.
     pub fn new(alloc: Global) -> ServedMachine
@@ -299,6 +312,7 @@ impl ServedMachine {
 impl Answerer for ServedMachine {
     ghost use Rattle.std.specs.Prelude.{refl};
     ghost use Rattle.line_service.specs.Services.{Faulted, ServiceAnswer, service_rules};
+    ghost use Rattle.line_service.specs.Services.{without_text};
     ghost use Rattle.line_service.specs.Laws.{fault_of_no_record, out_of_memory_any_time};
 
     ghost Answer = { ServiceAnswer };
@@ -306,6 +320,8 @@ impl Answerer for ServedMachine {
     ghost rules = { service_rules };
 
     ghost faulted = { Faulted };
+
+    ghost missed = { λ _. without_text };
 
     fn answer<K: Sink>(
         &mut self,
@@ -321,6 +337,10 @@ impl Answerer for ServedMachine {
             sink,
             writer,
         )
+    }
+
+    fn miss(&mut self, _error: ReadError) {
+        drop_text(&mut self.served);
     }
 
     ghost bad_record = { fault_of_no_record };

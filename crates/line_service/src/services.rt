@@ -129,10 +129,10 @@ pub fn serve_turn<S: Source, K: Sink>(
 /// then by an empty line. All that was read is answered, put and let out before more is asked for.
 /// In place of `world` the text of a saved machine may come, which begins with `history`: its
 /// records are answered by the empty line alone, and after the last the machine is opened. A fault
-/// in one drops what was read of the text. There is no limit on the input, and what was read of it
-/// is not kept. It fails where memory does
-/// not suffice for the start, before anything is read, and where a device fails. After a failure of
-/// the source what was read of a line that has not ended is not answered.
+/// in one drops what was read of the text, and so does a line that is no record. There is no limit
+/// on the input, and what was read of it is not kept. It fails where memory does not suffice for
+/// the start, before anything is read, and where a device fails. After a failure of the source what
+/// was read of a line that has not ended is not answered.
 pub fn serve<S: Source, K: Sink>(
     alloc: Global,
     source: &mut S,
