@@ -62,16 +62,16 @@ reads_codes seen (Ok x) read all h = tt
 reads_codes seen (Err fault) read all (inl none) = inl none
 reads_codes seen (Err fault) read all (inr is) = inr (fault_is_of_text read fault all is)
 
-head_faults : (records : List Record) → OnlyOfText (head_in records)
+pub head_faults : (records : List Record) → OnlyOfText (head_in records)
 head_faults records = numbered_faults 1 (want (begins (is_named (codes "history")) records) faults.NoWorld >>= λ it. head_of (first records))
 
-one_faults : {A : Type 0} (name : List ℕ) (read : Record → Result A Fault) (i : ℕ) (records : List Record) → OnlyOfText (one name read i records)
+pub one_faults : {A : Type 0} (name : List ℕ) (read : Record → Result A Fault) (i : ℕ) (records : List Record) → OnlyOfText (one name read i records)
 unfolding one
 one_faults name read i records =
     let next = want (begins (is_named name) records) faults.BadRecord >>= λ it. read (first records) in
     both_faults (at_record i next) _ (numbered_faults i next) (λ x. tt)
 
-many_faults : {A : Type 0} (is : Record → Bool) (read : A → Record → Result A Fault) (before : A) (i : ℕ) (records : List Record) → OnlyOfText (many is read before i records)
+pub many_faults : {A : Type 0} (is : Record → Bool) (read : A → Record → Result A Fault) (before : A) (i : ℕ) (records : List Record) → OnlyOfText (many is read before i records)
 unfolding many
 many_faults is read before i [] = tt
 many_faults {A} is read before i (r ∷ rest) =
@@ -87,7 +87,7 @@ tape_faults p history i records =
     both_faults (one (codes "tape") (tape_of p history) i records) _ (one_faults (codes "tape") (tape_of p history) i records)
     (λ tape. many_faults is_event (event_at p) tape.value tape.number tape.left)
 
-tapes_faults : (p k : ℕ) (history : List Process) (i : ℕ) (records : List Record) → OnlyOfText (tapes_from p k history i records)
+pub tapes_faults : (p k : ℕ) (history : List Process) (i : ℕ) (records : List Record) → OnlyOfText (tapes_from p k history i records)
 unfolding tapes_from
 tapes_faults p zero history i records = tt
 tapes_faults p (suc others) history i records =
@@ -97,7 +97,7 @@ front_of_faults : (n i : ℕ) (records : List Record) → OnlyOfText (front_of n
 unfolding front_of
 front_of_faults n i records = tapes_faults 0 n (replicate n fresh) i records
 
-several_faults : {A : Type 0} (name : List ℕ) (read : A → Record → Result A Fault) (k : ℕ) (before : A) (i : ℕ) (records : List Record) → OnlyOfText (several name read k before i records)
+pub several_faults : {A : Type 0} (name : List ℕ) (read : A → Record → Result A Fault) (k : ℕ) (before : A) (i : ℕ) (records : List Record) → OnlyOfText (several name read k before i records)
 unfolding several
 several_faults name read zero before i records = tt
 several_faults name read (suc others) before i records =

@@ -193,7 +193,7 @@ rest_is_written history before (round ∷ others) last short fit small =
     let wide : round.0 < 2 ^ 64 = omega (arith, fit.1) in
     rw (plain_decimal round.0 wide, checks_are_plain history round.1 short fit.2) (rest_is_written history round.0 others last short fit.3 small)
 
-saved_is_written : (parts : SavedParts) → IsSavedInRange parts → list_all is_written (saved_records parts) ≡ true
+pub saved_is_written : (parts : SavedParts) → IsSavedInRange parts → list_all is_written (saved_records parts) ≡ true
 saved_is_written parts fit =
     let front : List Record = front_records 4 parts.floors parts.history in
     let damages : List Record = damages_records 0 parts.marks.damaged in
