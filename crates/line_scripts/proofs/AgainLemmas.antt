@@ -1,12 +1,15 @@
 -- A script that is written is read again.
-use Rattle.std.proofs.Common.{◌≡◌, ◌≤◌, ◌<◌, ℕ, ◌+◌, ◌^◌, true, List, [], ◌∷◌, Bool, Some, None, Ok, refl, arith, length, le-leb}
+use Rattle.std.proofs.Common.{◌≡◌, ◌≤◌, ◌<◌, ℕ, ◌+◌, ◌^◌, true, List, [], ◌∷◌, ◌++◌, Bool, Some, None, Result, Ok, refl, ap, ◌∙◌, arith, length, le-leb}
 use Rattle.std.specs.Prelude.{codes, decimal, map}
 use Rattle.std.specs.List.{AllByRecursion, list_all}
 use Rattle.std.proofs.lemmas.Bool.{lt-ltb}
+use Rattle.std.proofs.lemmas.List.Folds.{list_all-append}
 use Rattle.line_names.specs.declared.limits.TheConstants.{MOST_BODY, MOST_PROCESSES}
 use Rattle.line_fields.proofs.PlainLemmas.{plain_decimal, plain_hex}
 use Rattle.line_fields.proofs.ReadAgain.{written_is_input, written_is_read}
 use Rattle.line_fields.proofs.RoundLemmas.{hex_hex_text, num_decimal}
+use Rattle.line_fields.specs.Fields.{◌>>=◌}
+use Rattle.line_fields.specs.Records.{Record}
 use Rattle.line_fields.specs.Shapes.{alone, two, three, four}
 use Rattle.line_fields.specs.Texts.{hex_text, is_plain_field, is_written, records_text}
 use Rattle.line_steps.specs.declared.modes.Mode.{Mode}
@@ -15,19 +18,27 @@ use Rattle.line_steps.specs.declared.steps.Step.TheVariants.{Send, Deliver, Chec
 use Rattle.line_tape.specs.declared.limits.TheConstants.{LAST_ROUND}
 use Rattle.line_claims.specs.declared.versions.TheConstants.{LAST_VERSION}
 use Rattle.line_claims.specs.Entries.{failed_of}
-use Rattle.line_claims.specs.Records.{members}
+use Rattle.line_claims.specs.declared.faults.TextFault.{TextFault}
+use Rattle.line_claims.specs.declared.versions.TheConstants.{LAST_CHECK_VERSION}
+use Rattle.line_claims.specs.Parts.{Part}
+use Rattle.line_claims.specs.Records.{history_record, members}
+use Rattle.line_claims.specs.Saved.{SavedParts, saved_records}
+use Rattle.line_claims.specs.SavedRanges.{IsSavedInRange}
 use Rattle.line_claims.specs.Versions.{IsVersion, earliest_version, most_in}
 use Rattle.line_claims.proofs.ClaimWrittenLemmas.{decimals_are_plain}
 use Rattle.line_claims.proofs.EntryAgainLemmas.{failed_again, members_below}
+use Rattle.line_claims.proofs.SavedAgainLemmas.{saved_again, saved_is_written}
 use Rattle.line_claims.proofs.SpellLemmas.{plain_again, round_again}
 use Rattle.line_claims.proofs.VersionLemmas.{earliest_has_room, earliest_is_known}
 use Rattle.line_claims.proofs.WrittenLemmas.{byte_at}
 use Rattle.line_scripts.specs.declared.commands.Command.{Command}
 use Rattle.line_scripts.specs.declared.commands.Command.TheVariants.{Answer, Bundle, Do, Forget, History, Live, Plan, Refused, Rounds, Save}
 use Rattle.line_scripts.specs.Ranges.{IsCommandInRange, IsScriptInRange, IsSetAmong, IsWithCheck, IsWithState}
-use Rattle.line_scripts.specs.Records.{command_record, mode_text, script_records, world_record}
+use Rattle.line_scripts.specs.Records.{command_record, mode_text, saved_script_records, script_records, world_record}
+use Rattle.line_scripts.specs.RunScripts.{Saved, run_script_of, run_script_of_text, saved_first, script_after, script_of_machine}
 use Rattle.line_scripts.specs.Scripts.{Script, command_in, commands_from, deliver_of, forget_of, mode_named, pick, script_of, script_of_text, send_of, with_check, with_failed, with_state, world_of}
 use Rattle.line_scripts.proofs.FailedLemmas.{failed_found}
+use Rattle.line_scripts.proofs.RunScriptLemmas.{run_saved}
 
 mode_again : (mode : Mode) → mode_named (mode_text mode) ≡ Ok mode
 mode_again Fifo = refl
@@ -158,3 +169,26 @@ unfolding script_of_text
 text_again script fit =
     let written = script_is_written script fit in
     rw (written_is_input (script_records script) written, written_is_read (script_records script) written) (script_again script fit)
+
+-- ---- a script that begins with a saved machine
+
+saved_first_again : (parts : SavedParts) (commands : List Record) → IsSavedInRange parts → (j : ℕ) × (run_script_of (saved_records parts ++ commands) ≡ script_after (record { value = Saved parts; number = j; left = commands }))
+saved_first_again parts commands fit =
+    let again = saved_again parts commands fit in
+    (again.0, run_saved (history_record LAST_CHECK_VERSION (length parts.history)) _ refl ∙ ap (λ (read : Result (Part SavedParts) TextFault). read >>= λ saved. script_after (saved_first saved)) again.1)
+
+saved_commands : (parts : SavedParts) (commands : List Command) (j : ℕ) → length parts.history ≤ MOST_PROCESSES → AllByRecursion (IsCommandInRange (length parts.history)) commands
+    → script_after (record { value = Saved parts; number = j; left = map (command_record (length parts.history)) commands }) ≡ Ok (script_of_machine (Saved parts) j commands)
+saved_commands parts commands j few fit = rw (commands_again (length parts.history) j commands few fit) refl
+
+pub saved_text_again : (parts : SavedParts) (commands : List Command) → IsSavedInRange parts → AllByRecursion (IsCommandInRange (length parts.history)) commands
+    → (first : ℕ) × (run_script_of_text (records_text (saved_script_records parts commands)) ≡ Ok (script_of_machine (Saved parts) first commands))
+unfolding run_script_of_text
+saved_text_again parts commands fit all =
+    let n : ℕ = length parts.history in
+    let behind : List Record = map (command_record n) commands in
+    let few : n ≤ MOST_PROCESSES = fit.history.few in
+    let records : List Record = saved_script_records parts commands in
+    let written : list_all is_written records ≡ true = list_all-append is_written (saved_records parts) behind ∙ rw (saved_is_written parts fit) (commands_are_written n commands few all) in
+    let again = saved_first_again parts behind fit in
+    (again.0, rw (written_is_input records written, written_is_read records written) (again.1 ∙ saved_commands parts commands again.0 few all))

@@ -36,7 +36,7 @@ pub length_in : (bs : List Block) (last : Block) → AreCommandBlocks bs last �
 length_in bs last known =
     omega (arith, length-append (commands_of_blocks bs) (commands_of_block last), full_length bs known.each, length-unpacked last.kept.items last.bytes.items)
 
-pub few_in : (bs : List Block) (last : Block) → AreCommandBlocks bs last → length (commands_in bs last) + 2 < 2 ^ 64
+pub few_in : (bs : List Block) (last : Block) → AreCommandBlocks bs last → length (commands_in bs last) + 2 ^ 63 < 2 ^ 64
 few_in bs last known = omega (arith, length_in bs last known, known.few, known.within)
 
 -- a full block has a command

@@ -1,5 +1,5 @@
 -- A fault of a script is one that scripts have.
-use Rattle.std.proofs.Common.{◌≡◌, ◌<◌, ℕ, ◌+◌, List, [], ◌∷◌, drop, length, Option, Some, None, Result, Ok, Err, true, false, subst, arith}
+use Rattle.std.proofs.Common.{◌≡◌, ◌<◌, ◌⊎◌, inl, inr, ℕ, ◌+◌, List, [], ◌∷◌, drop, length, Some, None, Result, Ok, Err, true, false, subst, arith}
 use Rattle.std.specs.Prelude.{Bool, IfErr, codes, if◌then◌else◌, nat_le, ◌&&◌, ◌==◌, not, ◌-◌}
 use Rattle.std.specs.Str.{all_ascii_digits, bytes_eq}
 use Rattle.std.specs.Str.Parse.{digits_value}
@@ -7,7 +7,8 @@ use Rattle.line_fields.specs.declared.faults.Fault.{Fault}
 use Rattle.line_fields.specs.declared.faults.Fault.TheVariants as faults
 use Rattle.line_fields.specs.Faults.{code_of}
 use Rattle.line_fields.specs.Fields.{◌>>=◌, digit, hex, num, want}
-use Rattle.line_fields.specs.Records.{Record, field}
+use Rattle.line_fields.specs.Bytes.{is_input_text}
+use Rattle.line_fields.specs.Records.{Record, field, records_of_text}
 use Rattle.line_fields.specs.Shapes.{Reader, alone, four, three, two}
 use Rattle.line_steps.specs.declared.modes.Mode.TheVariants.{Fifo, Unordered}
 use Rattle.line_steps.specs.declared.steps.Step.{Step}
@@ -15,13 +16,12 @@ use Rattle.line_steps.specs.declared.steps.Step.TheVariants.{Begin, Check, Damag
 use Rattle.line_claims.specs.declared.faults.TextFault.{TextFault}
 use Rattle.line_claims.specs.declared.versions.TheConstants.{LAST_VERSION}
 use Rattle.line_claims.specs.Numbers.{numbers, plain, round}
-use Rattle.line_claims.specs.Reads.{at_record}
+use Rattle.line_claims.specs.Reads.{Reads, at_record, fault_of_record, no_memory}
 use Rattle.line_claims.specs.Versions.{most_in}
 use Rattle.line_scripts.specs.declared.commands.Command.{Command}
 use Rattle.line_scripts.specs.declared.commands.Command.TheVariants.{Answer, Bundle, Do, Forget, History, Live, Plan, Rounds, Save}
-use Rattle.line_scripts.specs.Pieces.{begun_of, begun_on, with_commands}
 use Rattle.line_scripts.specs.Reads.{IsOfScript}
-use Rattle.line_scripts.specs.Scripts.{Script, command_in, commands_from, deliver_of, forget_of, mode_named, pick, script_of, send_of, with_check, with_failed, with_state, world_of}
+use Rattle.line_scripts.specs.Scripts.{Script, command_in, commands_from, deliver_of, forget_of, mode_named, pick, script_of, script_of_text, send_of, with_check, with_failed, with_state, world_of}
 
 -- the fault of a record is one that scripts have
 abbrev IsLow : Fault → Type 0
@@ -203,22 +203,17 @@ rows_faults (first ∷ rest) =
     both_faults (at_record 1 (world_of first)) _ (numbered_faults 1 (world_of first) (world_low first))
     (λ world. both_faults (commands_from world.0 2 rest) _ (commands_faults world.0 2 rest) (λ commands. tt))
 
--- of the records behind those that were read
-begun_faults : (records : List Record) → OnlyOfScript (begun_of records)
-unfolding begun_of
-begun_faults [] = tt
-begun_faults (first ∷ rest) = both_faults (script_of (first ∷ rest)) _ (rows_faults (first ∷ rest)) (λ script. tt)
+-- so is the fault of a whole text
+text_faults : (text : List ℕ) → OnlyOfScript (script_of_text text)
+unfolding script_of_text
+text_faults text =
+    elim (is_input_text text) as (λ b. OnlyOfScript ((if b then Ok (records_of_text text) else Err (fault_of_record 0 faults.BadRecord)) >>= script_of)) [
+      | true ↦ rows_faults (records_of_text text)
+      | false ↦ low_record
+    ]
 
-front_faults : (front : List Command) (read : Result (List Command) TextFault) → OnlyOfScript read → OnlyOfScript (with_commands front read)
-front_faults front read h = both_faults read _ h (λ others. tt)
-
-on_faults : (script : Option Script) (records : List Record) → OnlyOfScript (begun_on script records)
-on_faults None records = begun_faults records
-on_faults (Some script) records =
-    both_faults (with_commands script.commands (commands_from script.n (length script.commands + 2) records)) _
-    (front_faults script.commands (commands_from script.n (length script.commands + 2) records) (commands_faults script.n (length script.commands + 2) records))
-    (λ commands. tt)
-
--- so is the fault of a call that read them
-pub fault_is_of_script : (script : Option Script) (records : List Record) (fault : TextFault) → begun_on script records ≡ Err fault → IsOfScript fault
-fault_is_of_script script records fault h = subst (λ (r : Result (Option Script) TextFault). IfErr r IsOfScript) h (on_faults script records)
+-- so is the fault of a call that read it
+pub read_codes : {A : Type 0} (seen : A → Script) (result : Result A TextFault) (text : List ℕ) → Reads seen result (script_of_text text) → IfErr result (λ fault. (fault ≡ no_memory) ⊎ IsOfScript fault)
+read_codes seen (Ok x) text h = tt
+read_codes seen (Err fault) text (inl none) = inl none
+read_codes seen (Err fault) text (inr first) = inr (subst (λ (r : Result Script TextFault). IfErr r IsOfScript) first (text_faults text))

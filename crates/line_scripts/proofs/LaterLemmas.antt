@@ -1,5 +1,5 @@
 -- What version 1 reads, version 2 reads the same.
-use Rattle.std.proofs.Common.{◌≡◌, ◌≢◌, ◌≤◌, ℕ, Bool, true, false, List, ◌∷◌, ◌++◌, Result, Ok, Err, refl, sym, ◌∙◌, arith, length, le-leb}
+use Rattle.std.proofs.Common.{◌≡◌, ◌≢◌, ◌≤◌, ℕ, Bool, true, false, List, ◌∷◌, ◌++◌, Result, Ok, Err, refl, sym, ap, ◌∙◌, arith, length, le-leb}
 use Rattle.std.specs.Prelude.{◌==◌, ◌&&◌, codes, if◌then◌else◌, nat_le}
 use Rattle.std.proofs.lemmas.Bool.{leb-true}
 use Rattle.line_fields.specs.declared.faults.Fault.{Fault}
@@ -11,13 +11,16 @@ use Rattle.line_steps.specs.declared.modes.Mode.{Mode}
 use Rattle.line_claims.specs.declared.faults.TextFault.{TextFault}
 use Rattle.line_claims.specs.declared.versions.TheConstants.{LAST_VERSION, MOST_IN_FIRST_VERSION}
 use Rattle.line_claims.specs.Numbers.{plain}
+use Rattle.line_claims.specs.Parts.{is_named}
 use Rattle.line_claims.specs.Reads.{fault_of_record}
 use Rattle.line_claims.specs.Texts.{records_in}
 use Rattle.line_claims.specs.Versions.{most_in}
 use Rattle.line_claims.proofs.SpellLemmas.{plain_again}
 use Rattle.line_claims.proofs.VersionLemmas.{most_in_later}
 use Rattle.line_scripts.specs.Records.{DifferInVersion, with_version, world_record}
+use Rattle.line_scripts.specs.RunScripts.{read_as_run, run_script_of, run_script_of_text}
 use Rattle.line_scripts.specs.Scripts.{Script, mode_named, script_of, script_of_text, world_of}
+use Rattle.line_scripts.proofs.RunScriptLemmas.{run_as_read}
 
 -- the number of processes and the mode, as many processes as there is room for
 abbrev counted_if : Bool → ℕ → Result Mode Fault → Result (ℕ × Mode) Fault
@@ -144,3 +147,30 @@ same_text text good =
     second_text text
     ∙ same_if (is_input_text text) (parts 44 (lines_of text).0) (records_of_lines (lines_of text).1) (λ bad. good (first_text text ∙ bad))
     ∙ sym (first_text text)
+
+-- ---- as they are run
+
+-- a script that begins with `world` is run as it is read
+world_is_run : (text : List ℕ) (spelled : List ℕ) (others : Record) (rest : List Record) → records_in text ≡ Ok (with_version spelled others rest) → run_script_of_text text ≡ read_as_run (script_of_text text)
+unfolding run_script_of_text script_of_text
+world_is_run text spelled others rest is = rw is (run_as_read (begun spelled others) rest refl)
+
+pub run_same_as_spelled : (text later : List ℕ) → DifferInVersion text later → script_of_text text ≢ Err bad_count → run_script_of_text later ≡ run_script_of_text text
+run_same_as_spelled text later h good =
+    world_is_run later h.two h.others h.rest h.later_is ∙ ap read_as_run (same_as_spelled text later h good) ∙ sym (world_is_run text h.one h.others h.rest h.text_is)
+
+run_if : (plain : Bool) (r : Record) (rest : List Record) → is_named (codes "history") r ≡ false
+    → ((if plain then Ok (r ∷ rest) else Err (fault_of_record 0 faults.BadRecord)) >>= run_script_of) ≡ read_as_run (script_if plain (r ∷ rest))
+run_if true r rest other = run_as_read r rest other
+run_if false r rest other = refl
+
+first_run : (text : List ℕ) → run_script_of_text (codes "world,1," ++ text) ≡ read_as_run (script_of_text (codes "world,1," ++ text))
+unfolding run_script_of_text script_of_text is_input_text cut without
+first_run text = run_if (is_input_text text) (begun (codes "1") (parts 44 (lines_of text).0)) (records_of_lines (lines_of text).1) refl
+
+second_run : (text : List ℕ) → run_script_of_text (codes "world,2," ++ text) ≡ read_as_run (script_of_text (codes "world,2," ++ text))
+unfolding run_script_of_text script_of_text is_input_text cut without
+second_run text = run_if (is_input_text text) (begun (codes "2") (parts 44 (lines_of text).0)) (records_of_lines (lines_of text).1) refl
+
+pub run_same_text : (text : List ℕ) → script_of_text (codes "world,1," ++ text) ≢ Err bad_count → run_script_of_text (codes "world,2," ++ text) ≡ run_script_of_text (codes "world,1," ++ text)
+run_same_text text good = second_run text ∙ ap read_as_run (same_text text good) ∙ sym (first_run text)

@@ -8,3 +8,6 @@ pub mod LaterLemmas
 pub mod NameLemmas
 pub mod PieceLemmas
 pub mod ReadLemmas
+pub mod RunScriptLemmas
+pub mod SavedFaultLemmas
+pub mod ScriptPlaceLemmas

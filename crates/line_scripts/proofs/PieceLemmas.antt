@@ -1,30 +1,24 @@
--- A script whose text comes in pieces: what it spells so far, and one piece further.
-use Rattle.std.proofs.Common.{◌≡◌, ℕ, ◌+◌, ◌&&◌, Bool, true, false, List, [], ◌∷◌, ◌++◌, length, Option, Some, None, Result, Ok, Err, refl, sym, ap, ◌∙◌, subst, inl, inr, arith}
-use Rattle.std.specs.Prelude.{IfErr, IfOk, is_some}
-use Rattle.std.proofs.lemmas.Bool.{cases_Bool}
-use Rattle.line_fields.specs.declared.faults.Fault.TheVariants as faults
-use Rattle.line_fields.specs.Bytes.{is_input_text}
+-- Commands that are kept of the records of a piece, and what its text still spells.
+use Rattle.std.proofs.Common.{◌≡◌, ℕ, ◌+◌, false, List, [], ◌∷◌, ◌++◌, append_assoc, length, Result, Ok, Err, refl, sym, subst, ap, ◌∙◌, arith, length-append}
+use Rattle.std.specs.Prelude.{IfErr, OnOk}
 use Rattle.line_fields.specs.Fields.{◌>>=◌}
-use Rattle.line_fields.specs.Records.{EndsLine, Record, records_of_text}
-use Rattle.line_fields.proofs.TextLemmas.{empty_is_input, records_of_nothing}
-use Rattle.line_steps.specs.declared.modes.Mode.{Mode}
+use Rattle.line_fields.specs.Records.{Record}
 use Rattle.line_claims.specs.declared.faults.TextFault.{TextFault}
 use Rattle.line_claims.specs.declared.faults.TextError.{TextError}
 use Rattle.line_claims.specs.declared.faults.TextError.TheVariants as errors
-use Rattle.line_claims.specs.Reads.{FailsText, Reads, Yields, fault_of_record, at_record}
-use Rattle.line_claims.specs.Texts.{records_in}
+use Rattle.line_claims.specs.Reads.{FailsText, Yields, at_record}
+use Rattle.line_scripts.specs.declared.beginnings.Beginning.{Beginning}
+use Rattle.line_scripts.specs.declared.beginnings.Beginning.TheVariants as beginnings
+use Rattle.line_scripts.specs.declared.beginnings.TakenMachine.{TakenMachine}
 use Rattle.line_scripts.specs.declared.commands.Command.{Command}
-use Rattle.line_scripts.specs.Pieces.{at_end, begun_in, begun_of, begun_on, found, script_or_none, script_with, with_commands}
-use Rattle.line_scripts.specs.declared.scripts.KeptScript as kept
-use Rattle.line_scripts.specs.Reads.{kept_script_view}
-use Rattle.line_scripts.specs.Scripts.{Script, command_in, commands_from, script_of, script_of_text, world_of}
-use Rattle.line_fields.proofs.ApartLemmas.{input_apart, records_apart}
+use Rattle.line_scripts.specs.Beginnings.{AreKept, HasFound, IsBeginning, has_machine, taken_of}
+use Rattle.line_scripts.specs.Pieces.{script_left, with_commands}
+use Rattle.line_scripts.specs.Reads.{machine_view}
+use Rattle.line_scripts.specs.RunScripts.{RunScript, processes_of}
+use Rattle.line_scripts.specs.Scripts.{command_in, commands_from}
+use Rattle.line_scripts.proofs.RunScriptLemmas.{made_with, read_alone}
 
 -- ---- the commands of records, and of those behind them
-
-read_alone : (read : Result (List Command) TextFault) → read ≡ with_commands [] read
-read_alone (Ok commands) = refl
-read_alone (Err fault) = refl
 
 -- one more command in front
 with_more : (c : Command) (front : List Command) (read : Result (List Command) TextFault) → (with_commands front read >>= λ others. Ok (c ∷ others)) ≡ with_commands (c ∷ front) read
@@ -62,176 +56,91 @@ commands_both n i (r ∷ records) rest =
     (λ c cs. ap (λ (j : ℕ). commands_from n j rest) (longer_by_one c cs i))
     ∙ sym (ap (λ (read : Result (List Command) TextFault). read >>= λ cs. with_commands cs (commands_from n (length cs + i) rest)) (commands_one n i r records))
 
--- ---- the script of records, and of those behind them
+-- ---- commands behind those that were taken
 
--- a script of commands that were read
-abbrev made : ℕ × Mode → Result (List Command) TextFault → Result (Option Script) TextFault
-made world read = (read >>= λ commands. Ok (script_with world commands)) >>= λ script. Ok (Some script)
+-- commands that were read behind others
+grown : (front new : List Command) (read : Result (List Command) TextFault) → with_commands front read ≡ Ok new → (cs : List Command) × (read ≡ Ok cs) × (new ≡ front ++ cs)
+grown front new (Ok cs) h = (cs, refl, cc h)
+grown front new (Err fault) h = cc h
 
-made_at_once : (world : ℕ × Mode) (read : Result (List Command) TextFault) → made world read ≡ (read >>= λ commands. Ok (Some (script_with world commands)))
-made_at_once world (Ok commands) = refl
-made_at_once world (Err fault) = refl
+not_grown : (front : List Command) (fault : TextFault) (read : Result (List Command) TextFault) → with_commands front read ≡ Err fault → read ≡ Err fault
+not_grown front fault (Ok cs) h = cc h
+not_grown front fault (Err other) h =
+    let same : other ≡ fault = cc h in
+    ap Err same
 
-made_both : (world : ℕ × Mode) (some : Result (List Command) TextFault) (rest : List Record)
-    → made world (some >>= λ cs. with_commands cs (commands_from world.0 (length cs + 2) rest)) ≡ (made world some >>= λ script. begun_on script rest)
-made_both world (Err fault) rest = refl
-made_both world (Ok cs) rest = made_at_once world (with_commands cs (commands_from world.0 (length cs + 2) rest))
+both_fronts : (front cs : List Command) (read : Result (List Command) TextFault) → with_commands front (with_commands cs read) ≡ with_commands (front ++ cs) read
+both_fronts front cs (Ok others) = ap Ok (sym (append_assoc front cs others))
+both_fronts front cs (Err fault) = refl
 
--- a script by its first record
-abbrev from_world : Result (ℕ × Mode) TextFault → List Record → Result (Option Script) TextFault
-from_world world rest = (world >>= λ w. (commands_from w.0 2 rest >>= λ commands. Ok (script_with w commands))) >>= λ script. Ok (Some script)
+commands_on : (n first : ℕ) (front new : List Command) (records rest : List Record) → with_commands front (commands_from n (length front + first) records) ≡ Ok new
+    → with_commands front (commands_from n (length front + first) (records ++ rest)) ≡ with_commands new (commands_from n (length new + first) rest)
+commands_on n first front new records rest h =
+    let i : ℕ = length front + first in
+    let one = grown front new (commands_from n i records) h in
+    let cs : List Command = one.0 in
+    let count : length cs + i ≡ length new + first = omega (arith, ap length one.2, length-append front cs) in
+    ap (with_commands front) (commands_both n i records rest ∙ ap (λ (read : Result (List Command) TextFault). read >>= λ c. with_commands c (commands_from n (length c + i) rest)) one.1)
+    ∙ both_fronts front cs (commands_from n (length cs + i) rest)
+    ∙ ap (λ (all : List Command). with_commands all (commands_from n (length cs + i) rest)) (sym one.2)
+    ∙ ap (λ (j : ℕ). with_commands new (commands_from n j rest)) count
 
-from_both : (world : Result (ℕ × Mode) TextFault) (records rest : List Record) → from_world world (records ++ rest) ≡ (from_world world records >>= λ script. begun_on script rest)
-from_both (Err fault) records rest = refl
-from_both (Ok w) records rest = ap (made w) (commands_both w.0 2 records rest) ∙ made_both w (commands_from w.0 2 records) rest
+commands_stop : (n first : ℕ) (front : List Command) (fault : TextFault) (records rest : List Record) → with_commands front (commands_from n (length front + first) records) ≡ Err fault
+    → with_commands front (commands_from n (length front + first) (records ++ rest)) ≡ Err fault
+commands_stop n first front fault records rest h =
+    let i : ℕ = length front + first in
+    ap (with_commands front)
+    (commands_both n i records rest
+    ∙ ap (λ (read : Result (List Command) TextFault). read >>= λ c. with_commands c (commands_from n (length c + i) rest)) (not_grown front fault (commands_from n i records) h))
 
-pub begun_first : (first : Record) (rest : List Record) → begun_of (first ∷ rest) ≡ from_world (at_record 1 (world_of first)) rest
-unfolding begun_of script_of
-begun_first first rest = refl
+-- what was found of the machine is what it is
+found_same : (it : TakenMachine) (found : ℕ × ℕ) (old : List Command) (records : List Record) → HasFound (beginnings.Machine it) found
+    → with_commands old (commands_from found.0 (length old + found.1) records) ≡ with_commands old (commands_from (processes_of (machine_view it.machine)) (length old + it.first) records)
+found_same it found old records has =
+    ap (λ (n : ℕ). with_commands old (commands_from n (length old + found.1) records)) has.0
+    ∙ ap (λ (i : ℕ). with_commands old (commands_from (processes_of (machine_view it.machine)) (length old + i) records)) has.1
 
-begun_none : (rest : List Record) → begun_of rest ≡ (begun_of [] >>= λ script. begun_on script rest)
-unfolding begun_of
-begun_none rest = refl
+-- commands were kept
+pub kept_on : (b : Beginning) (found : ℕ × ℕ) (result : Result (Unit {0}) TextError) (old new : List Command) (records : List Record) → HasFound b found
+    → Yields (λ _. new) result (with_commands old (commands_from found.0 (length old + found.1) records))
+    → OnOk result ((rest : List Record) → script_left (taken_of b old) (records ++ rest) ≡ script_left (taken_of b new) rest)
+kept_on b found (Err e) old new records has h = tt
+kept_on beginnings.Nothing found (Ok u) old new records has h = absurd has
+kept_on (beginnings.Text text) found (Ok u) old new records has h = absurd has
+kept_on (beginnings.Machine it) found (Ok u) old new records has h = λ rest.
+    ap (made_with (machine_view it.machine) it.first) (commands_on (processes_of (machine_view it.machine)) it.first old new records rest (sym (found_same it found old records has) ∙ h))
 
-begun_both : (records rest : List Record) → begun_of (records ++ rest) ≡ (begun_of records >>= λ script. begun_on script rest)
-begun_both [] rest = begun_none rest
-begun_both (first ∷ records) rest =
-    begun_first first (records ++ rest) ∙ from_both (at_record 1 (world_of first)) records rest
-    ∙ sym (ap (λ (begun : Result (Option Script) TextFault). begun >>= λ script. begun_on script rest) (begun_first first records))
+-- a record has a fault
+kept_fault : (b : Beginning) (found : ℕ × ℕ) (fault : TextFault) (old : List Command) (records rest : List Record) → HasFound b found
+    → with_commands old (commands_from found.0 (length old + found.1) records) ≡ Err fault → script_left (taken_of b old) (records ++ rest) ≡ Err fault
+kept_fault beginnings.Nothing found fault old records rest has h = absurd has
+kept_fault (beginnings.Text text) found fault old records rest has h = absurd has
+kept_fault (beginnings.Machine it) found fault old records rest has h =
+    ap (made_with (machine_view it.machine) it.first) (commands_stop (processes_of (machine_view it.machine)) it.first old fault records rest (sym (found_same it found old records has) ∙ h))
 
--- ---- the script of a text, and of a piece behind it
+pub kept_not : (b : Beginning) (found : ℕ × ℕ) (result : Result (Unit {0}) TextError) (old new : List Command) (records : List Record) → HasFound b found
+    → Yields (λ _. new) result (with_commands old (commands_from found.0 (length old + found.1) records))
+    → IfErr result (λ error. (rest : List Record) → FailsText error (script_left (taken_of b old) (records ++ rest)))
+kept_not b found (Ok u) old new records has h = tt
+kept_not b found (Err errors.OutOfMemory) old new records has h = λ rest. tt
+kept_not b found (Err (errors.Fault f)) old new records has h = λ rest. kept_fault b found f old records rest has h
 
--- a byte that no text has
-abbrev pub bad_byte : TextFault
-bad_byte = fault_of_record 0 faults.BadRecord
+-- what is to be read of records may be said otherwise
+pub ok_after : {A E : Type 0} (result : Result A E) (old mid new : List Record → Result RunScript TextFault) → ((rest : List Record) → old rest ≡ mid rest) → OnOk result ((rest : List Record) → mid rest ≡ new rest)
+    → OnOk result ((rest : List Record) → old rest ≡ new rest)
+ok_after (Ok x) old mid new same h = λ rest. same rest ∙ h rest
+ok_after (Err e) old mid new same h = tt
 
-if_plain : (text : List ℕ) → is_input_text text ≡ true → begun_in text ≡ begun_of (records_of_text text)
-unfolding begun_in
-if_plain text plain = rw plain refl
+pub err_after : {A : Type 0} (result : Result A TextError) (old mid : List Record → Result RunScript TextFault) → ((rest : List Record) → old rest ≡ mid rest) → IfErr result (λ e. (rest : List Record) → FailsText e (mid rest))
+    → IfErr result (λ e. (rest : List Record) → FailsText e (old rest))
+err_after (Ok x) old mid same h = tt
+err_after (Err e) old mid same h = λ rest. subst (λ (read : Result RunScript TextFault). FailsText e read) (sym (same rest)) (h rest)
 
-pub if_not_plain : (text : List ℕ) → is_input_text text ≡ false → begun_in text ≡ Err bad_byte
-unfolding begun_in
-if_not_plain text bad = rw bad refl
+found_has : (b : Beginning) (found : ℕ × ℕ) → HasFound b found → has_machine b ≡ false → ⊥
+found_has beginnings.Nothing found has none = has
+found_has (beginnings.Text text) found has none = has
+found_has (beginnings.Machine it) found has none = cc none
 
-and_false : (a : Bool) → (a && false) ≡ false
-and_false true = refl
-and_false false = refl
-
-and_true : (a : Bool) → (a && true) ≡ a
-and_true true = refl
-and_true false = refl
-
--- a piece with a byte that no text has
-pub bad_behind : (front piece : List ℕ) → EndsLine front → is_input_text piece ≡ false → begun_in (front ++ piece) ≡ Err bad_byte
-bad_behind front piece ends bad =
-    if_not_plain (front ++ piece) (input_apart front piece ends ∙ ap (λ (b : Bool). is_input_text front && b) bad ∙ and_false (is_input_text front))
-
--- a piece without one
-pub begun_behind : (front piece : List ℕ) → EndsLine front → is_input_text piece ≡ true → begun_in (front ++ piece) ≡ (begun_in front >>= λ script. begun_on script (records_of_text piece))
-begun_behind front piece ends plain =
-    let same : is_input_text (front ++ piece) ≡ is_input_text front =
-    input_apart front piece ends ∙ ap (λ (b : Bool). is_input_text front && b) plain ∙ and_true (is_input_text front) in
-    elim (cases_Bool (is_input_text front)) [
-      | inl e ↦
-          if_plain (front ++ piece) (same ∙ e) ∙ ap begun_of (records_apart front piece ends) ∙ begun_both (records_of_text front) (records_of_text piece)
-          ∙ sym (ap (λ (begun : Result (Option Script) TextFault). begun >>= λ script. begun_on script (records_of_text piece)) (if_plain front e))
-      | inr e ↦
-          if_not_plain (front ++ piece) (same ∙ e)
-          ∙ sym (ap (λ (begun : Result (Option Script) TextFault). begun >>= λ script. begun_on script (records_of_text piece)) (if_not_plain front e))
-    ]
-
--- a fault stays the first one
-pub fault_stays : (front piece : List ℕ) (fault : TextFault) → EndsLine front → is_input_text piece ≡ true → Err fault ≡ begun_in front → Err fault ≡ begun_in (front ++ piece)
-fault_stays front piece fault ends plain is =
-    ap (λ (begun : Result (Option Script) TextFault). begun >>= λ script. begun_on script (records_of_text piece)) is ∙ sym (begun_behind front piece ends plain)
-
--- the records of a piece behind those of the text before it
-pub begun_more : (front piece : List ℕ) (script : Option Script) → EndsLine front → is_input_text piece ≡ true → Ok script ≡ begun_in front → begun_on script (records_of_text piece) ≡ begun_in (front ++ piece)
-begun_more front piece script ends plain is =
-    ap (λ (begun : Result (Option Script) TextFault). begun >>= λ s. begun_on s (records_of_text piece)) is ∙ sym (begun_behind front piece ends plain)
-
-begun_of_none : begun_of [] ≡ Ok None
-unfolding begun_of
-begun_of_none = refl
-
-pub nothing_begun : begun_in [] ≡ Ok None
-nothing_begun = if_plain [] empty_is_input ∙ ap begun_of records_of_nothing ∙ begun_of_none
-
--- ---- the end
-
-ended_or : (read : Result Script TextFault) → ((read >>= λ script. Ok (Some script)) >>= script_or_none) ≡ read
-ended_or (Ok script) = refl
-ended_or (Err fault) = refl
-
-ended_of : (records : List Record) → (begun_of records >>= script_or_none) ≡ script_of records
-unfolding begun_of script_of
-ended_of [] = refl
-ended_of (first ∷ rest) = ended_or (script_of (first ∷ rest))
-
-ended_in : (read : Result (List Record) TextFault) → ((read >>= begun_of) >>= script_or_none) ≡ (read >>= script_of)
-ended_in (Ok records) = ended_of records
-ended_in (Err fault) = refl
-
-pub ended_text : (text : List ℕ) → at_end (begun_in text) ≡ script_of_text text
-unfolding begun_in script_of_text
-ended_text text = ended_in (records_in text)
-
--- ---- a piece that was taken, by what was found before it
-
--- a fault was found before
-pub fault_held : (fault : Option TextFault) (script : Option Script) (front piece : List ℕ) → is_some fault ≡ true → EndsLine front → is_input_text piece ≡ true
-    → found fault script ≡ begun_in front → found fault script ≡ begun_in (front ++ piece)
-fault_held None script front piece is ends plain h = cc is
-fault_held (Some f) script front piece is ends plain h = fault_stays front piece f ends plain h
-
--- none was, nor is there one in the piece
-pub piece_taken : (fault : Option TextFault) (old new : Option Script) (front piece : List ℕ) → is_some fault ≡ false → EndsLine front → is_input_text piece ≡ true
-    → begun_on old (records_of_text piece) ≡ Ok new → found fault old ≡ begun_in front → found fault new ≡ begun_in (front ++ piece)
-piece_taken None old new front piece is ends plain taken h = sym taken ∙ begun_more front piece old ends plain h
-piece_taken (Some f) old new front piece is ends plain taken h = cc is
-
--- the piece has one
-pub fault_found : (fault : Option TextFault) (old : Option Script) (new : TextFault) (front piece : List ℕ) → is_some fault ≡ false → EndsLine front → is_input_text piece ≡ true
-    → begun_on old (records_of_text piece) ≡ Err new → found fault old ≡ begun_in front → Err new ≡ begun_in (front ++ piece)
-fault_found None old new front piece is ends plain taken h = sym taken ∙ begun_more front piece old ends plain h
-fault_found (Some f) old new front piece is ends plain taken h = cc is
-
--- ---- the first record, and the commands behind it
-
--- commands that were read make a script of the first record before them
-pub yields_script : (result : Result (Unit {0}) TextError) (world : ℕ × Mode) (new : List Command) (read : Result (List Command) TextFault) → Yields (λ _. new) result read
-    → Yields (λ _. Some (script_with world new)) result (read >>= λ commands. Ok (Some (script_with world commands)))
-yields_script (Ok u) world new read h = ap (λ (r : Result (List Command) TextFault). r >>= λ commands. Ok (Some (script_with world commands))) h
-yields_script (Err errors.OutOfMemory) world new read h = tt
-yields_script (Err (errors.Fault f)) world new read h = ap (λ (r : Result (List Command) TextFault). r >>= λ commands. Ok (Some (script_with world commands))) h
-
-pub none_begun : (records : List Record) → records ≡ [] → begun_of records ≡ Ok None
-none_begun records none = ap begun_of none ∙ begun_of_none
-
-pub not_begun : (records : List Record) (first : Record) (rest : List Record) (e : TextError) → records ≡ first ∷ rest → FailsText e (at_record 1 (world_of first)) → FailsText e (begun_of records)
-not_begun records first rest errors.OutOfMemory is h = tt
-not_begun records first rest (errors.Fault f) is h =
-    ap begun_of is ∙ begun_first first rest ∙ ap (λ (world : Result (ℕ × Mode) TextFault). from_world world rest) h
-
-pub begun_with : (records : List Record) (first : Record) (rest : List Record) (world : ℕ × Mode) (front : List Command) → records ≡ first ∷ rest → at_record 1 (world_of first) ≡ Ok world → front ≡ []
-    → begun_of records ≡ (with_commands front (commands_from world.0 (length front + 2) rest) >>= λ commands. Ok (Some (script_with world commands)))
-begun_with records first rest world front is h none =
-    let two : 2 ≡ length {A = Command} [] + 2 = omega arith in
-    ap begun_of is ∙ begun_first first rest ∙ ap (λ (w : Result (ℕ × Mode) TextFault). from_world w rest) h ∙ made_at_once world (commands_from world.0 2 rest)
-    ∙ ap (λ (read : Result (List Command) TextFault). read >>= λ commands. Ok (Some (script_with world commands))) (read_alone (commands_from world.0 2 rest))
-    ∙ ap (λ (i : ℕ). with_commands [] (commands_from world.0 i rest) >>= λ commands. Ok (Some (script_with world commands))) two
-    ∙ ap (λ (cs : List Command). with_commands cs (commands_from world.0 (length cs + 2) rest) >>= λ commands. Ok (Some (script_with world commands))) (sym none)
-
-pub begun_yields : (result : Result (Unit {0}) TextError) (records : List Record) (first : Record) (rest : List Record) (world : ℕ × Mode) (front new : List Command) → records ≡ first ∷ rest
-    → at_record 1 (world_of first) ≡ Ok world → front ≡ [] → Yields (λ _. new) result (with_commands front (commands_from world.0 (length front + 2) rest))
-    → Yields (λ _. Some (script_with world new)) result (begun_of records)
-begun_yields result records first rest world front new is h none read =
-    subst (λ (begun : Result (Option Script) TextFault). Yields (λ _. Some (script_with world new)) result begun) (sym (begun_with records first rest world front is h none))
-    (yields_script result world new (with_commands front (commands_from world.0 (length front + 2) rest)) read)
-
--- ---- a whole text
-
-pub reads_whole : (result : Result kept.KeptScript TextFault) (begun : Result (Option Script) TextFault) (text : List ℕ) → begun ≡ begun_in text → IfOk result (λ script. at_end begun ≡ Ok (kept_script_view script))
-    → IfErr result (λ fault. at_end begun ≡ Err fault) → Reads kept_script_view result (script_of_text text)
-reads_whole (Ok script) begun text is ok err = sym (ended_text text) ∙ ap at_end (sym is) ∙ ok
-reads_whole (Err fault) begun text is ok err = inr (sym (ended_text text) ∙ ap at_end (sym is) ∙ err)
+-- a beginning that was found, and commands behind it
+pub found_kept : (b : Beginning) (found : ℕ × ℕ) (commands : List Command) → IsBeginning b → HasFound b found → AreKept b commands
+found_kept b found commands begun has = record { begun = begun; none = λ none. absurd (found_has b found has none) }

@@ -52,12 +52,12 @@ one_kept front later (Ok c) h = (c, refl, cc h)
 one_kept front later (Err fault) h = cc h
 
 -- the command of one more record was kept
-pub kept_more : (front later : List Command) (n : ℕ) (rows : List Record) (r : Record) (rest : List Record) (total : Result (List Command) TextFault) → rows ≡ r ∷ rest
-    → with_command front (command_in n r) ≡ Ok later → total ≡ with_commands front (commands_from n (length front + 2) rows) → total ≡ with_commands later (commands_from n (length later + 2) rest)
-kept_more front later n rows r rest total e kept k =
+pub kept_more : (front later : List Command) (n first : ℕ) (rows : List Record) (r : Record) (rest : List Record) (total : Result (List Command) TextFault) → rows ≡ r ∷ rest
+    → with_command front (command_in n r) ≡ Ok later → total ≡ with_commands front (commands_from n (length front + first) rows) → total ≡ with_commands later (commands_from n (length later + first) rest)
+kept_more front later n first rows r rest total e kept k =
     let one = one_kept front later (command_in n r) kept in
     let long : length later ≡ length front + 1 = ap length one.2 ∙ length-append front (one.0 ∷ []) in
-    read_more front later n (length front + 2) (length later + 2) rows r rest one.0 total e one.2 (omega (arith, long)) (ap (at_record (length front + 2)) one.1) k
+    read_more front later n (length front + first) (length later + first) rows r rest one.0 total e one.2 (omega (arith, long)) (ap (at_record (length front + first)) one.1) k
 
 -- a record has a fault
 stopped : (front : List Command) (n i : ℕ) (rows : List Record) (r : Record) (rest : List Record) (e : TextError) (total : Result (List Command) TextFault) → rows ≡ r ∷ rest
@@ -80,7 +80,7 @@ fails_at i memory.OutOfMemory read h = tt
 fails_at i (memory.Fault fault) read h = ap (at_record i) h
 
 -- the command of a record was not kept
-pub kept_no_more : (front : List Command) (n number : ℕ) (rows : List Record) (r : Record) (rest : List Record) (e : ReadError) (total : Result (List Command) TextFault) → rows ≡ r ∷ rest
-    → number ≡ length front + 2 → Fails e (with_command front (command_in n r)) → total ≡ with_commands front (commands_from n (length front + 2) rows) → FailsText (error_at number e) total
-kept_no_more front n number rows r rest e total s is h k =
-    rw is (stopped front n (length front + 2) rows r rest (error_at (length front + 2) e) total s (fails_at (length front + 2) e (command_in n r) (not_kept front e (command_in n r) h)) k)
+pub kept_no_more : (front : List Command) (n first number : ℕ) (rows : List Record) (r : Record) (rest : List Record) (e : ReadError) (total : Result (List Command) TextFault) → rows ≡ r ∷ rest
+    → number ≡ length front + first → Fails e (with_command front (command_in n r)) → total ≡ with_commands front (commands_from n (length front + first) rows) → FailsText (error_at number e) total
+kept_no_more front n first number rows r rest e total s is h k =
+    rw is (stopped front n (length front + first) rows r rest (error_at (length front + first) e) total s (fails_at (length front + first) e (command_in n r) (not_kept front e (command_in n r) h)) k)

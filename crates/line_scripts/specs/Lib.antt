@@ -1,4 +1,5 @@
 pub mod Scripts
+pub mod RunScripts
 pub mod Reads
 pub mod Records
 pub mod Ranges
@@ -6,4 +7,5 @@ pub mod Keeping
 pub mod Blocks
 pub mod Names
 pub mod Pieces
+pub mod Beginnings
 pub mod Shown

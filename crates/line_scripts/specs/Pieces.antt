@@ -1,63 +1,55 @@
--- What a script spells so far whose text comes in pieces of whole lines.
-use Rattle.std.specs.Prelude.{◌≡◌, ◌≤◌, ℕ, ◌+◌, ◌++◌, List, [], ◌∷◌, length, Option, Some}
-use Rattle.std.specs.Prelude.{None, Result, Ok, Err, IfNone, IfSome}
-use Rattle.line_names.specs.declared.limits.TheConstants.{MOST_PROCESSES}
-use Rattle.line_fields.specs.declared.faults.Fault.TheVariants as faults
+-- What the text of a script still spells, the first records of which were taken.
+use Rattle.std.specs.Prelude.{ℕ, ◌+◌, ◌++◌, List, length, Option, None, Some, Result, Ok}
+use Rattle.std.specs.Prelude.{Err}
 use Rattle.line_fields.specs.Fields.{◌>>=◌}
 use Rattle.line_fields.specs.Records.{Record}
-use Rattle.line_steps.specs.declared.modes.Mode.{Mode}
 use Rattle.line_claims.specs.declared.faults.TextFault.{TextFault}
-use Rattle.line_claims.specs.Reads.{fault_of_record}
+use Rattle.line_claims.specs.SavedReadings.{SavedPlace, saved_left}
 use Rattle.line_claims.specs.Texts.{records_in}
 use Rattle.line_scripts.specs.declared.commands.Command.{Command}
-use Rattle.line_scripts.specs.Scripts.{Script, commands_from, script_of}
+use Rattle.line_scripts.specs.RunScripts.{FirstMachine, RunScript, processes_of, run_script_of}
+use Rattle.line_scripts.specs.RunScripts.{saved_first, script_after, script_of_machine}
+use Rattle.line_scripts.specs.Scripts.{commands_from}
 
--- the script that the records so far spell; before the first one there is none
-unfoldable pub begun_of : List Record → Result (Option Script) TextFault
-begun_of [] = Ok None
-begun_of (first ∷ rest) = script_of (first ∷ rest) >>= λ script. Ok (Some script)
-
--- the script that a text spells so far
-unfoldable pub begun_in : List ℕ → Result (Option Script) TextFault
-begun_in text = records_in text >>= begun_of
-
--- a script that was begun, or the fault that there is none
-abbrev pub script_or_none : Option Script → Result Script TextFault
-script_or_none None = Err (fault_of_record 1 faults.NoWorld)
-script_or_none (Some script) = Ok script
-
--- the script that a text spells where it ends here
-abbrev pub at_end : Result (Option Script) TextFault → Result Script TextFault
-at_end begun = begun >>= script_or_none
+-- what was taken of a script: nothing; the first records of a saved machine, the next one with that
+-- number; or its machine, the number of the record of its first command, and the commands so far
+pub data TakenScript : Type 0 where
+  NothingTaken : TakenScript
+  InSaved : SavedPlace → ℕ → TakenScript
+  InCommands : FirstMachine → ℕ → List Command → TakenScript
 
 -- commands, and after them those that are read next
 abbrev pub with_commands : List Command → Result (List Command) TextFault
     → Result (List Command) TextFault
 with_commands front read = read >>= λ others. Ok (front ++ others)
 
--- a script of a first record and commands
-abbrev pub script_with : ℕ × Mode → List Command → Script
-script_with world commands = record { n = world.0; mode = world.1; commands = commands }
+-- a script of which these commands were taken, with those of more records
+abbrev pub script_with : FirstMachine → ℕ → List Command → List Record → Result RunScript TextFault
+script_with machine first commands records =
+    with_commands commands
+    (commands_from (processes_of machine) (length commands + first) records)
+    >>= λ all. Ok (script_of_machine machine first all)
 
--- a script that was begun, with the commands of more records
-abbrev pub begun_on : Option Script → List Record → Result (Option Script) TextFault
-begun_on None records = begun_of records
-begun_on (Some script) records =
-    with_commands script.commands
-    (commands_from script.n (length script.commands + 2) records)
-    >>= λ commands. Ok (Some (script_with (script.n, script.mode) commands))
+-- the script of which that was taken, and these records end
+abbrev pub script_left : TakenScript → List Record → Result RunScript TextFault
+script_left NothingTaken records = run_script_of records
+script_left (InSaved place number) records =
+    saved_left place number records >>= λ saved. script_after (saved_first saved)
+script_left (InCommands machine first commands) records =
+    script_with machine first commands records
 
--- the script that a first record and commands that are kept make
-abbrev pub script_kept : Option (ℕ × Mode) → List Command → Option Script
-script_kept None commands = None
-script_kept (Some world) commands = Some (script_with world commands)
+-- what is read, unless there was a fault before
+abbrev pub unless_faulted : Option TextFault → Result RunScript TextFault
+    → Result RunScript TextFault
+unless_faulted None read = read
+unless_faulted (Some fault) read = Err fault
 
--- what was found so far: a fault, or else the script that was begun
-abbrev pub found : Option TextFault → Option Script → Result (Option Script) TextFault
-found None script = Ok script
-found (Some fault) script = Err fault
+-- what was taken of the text of a script, and the fault, if there was one
+pub record ScriptPlace : Type 0 where
+  pub taken : TakenScript
+  pub fault : Option TextFault
 
--- commands are kept as they are among so many processes, and none before the first record
-pub record AreKept (world : Option (ℕ × Mode)) (commands : List Command) : Type 0 where
-  pub within : IfSome world (λ w. (1 ≤ w.0) × (w.0 ≤ MOST_PROCESSES))
-  pub none : IfNone world (commands ≡ [])
+-- what a text spells that ends what was taken
+unfoldable pub script_text_left : ScriptPlace → List ℕ → Result RunScript TextFault
+script_text_left place text =
+    records_in text >>= λ records. unless_faulted place.fault (script_left place.taken records)

@@ -1,5 +1,6 @@
 -- How scripts are written, record by record.
-use Rattle.std.specs.Prelude.{◌≡◌, ℕ, List, [], ◌∷◌, map, Option, Some, None, Ok, codes, decimal}
+use Rattle.std.specs.Prelude.{◌≡◌, ◌++◌, ℕ, List, [], ◌∷◌, length, map, Some, None, Ok}
+use Rattle.std.specs.Prelude.{codes, decimal}
 use Rattle.line_fields.specs.Records.{Record}
 use Rattle.line_fields.specs.Texts.{hex_text}
 use Rattle.line_steps.specs.declared.modes.Mode.{Mode}
@@ -8,6 +9,7 @@ use Rattle.line_steps.specs.declared.steps.Step.TheVariants.{Send, Deliver, Chec
 use Rattle.line_steps.specs.declared.steps.Step.TheVariants.{Damage, Bar, Recover}
 use Rattle.line_claims.specs.Numbers.{plain}
 use Rattle.line_claims.specs.Records.{members}
+use Rattle.line_claims.specs.Saved.{SavedParts, saved_records}
 use Rattle.line_claims.specs.Texts.{records_in}
 use Rattle.line_claims.specs.Versions.{earliest_version}
 use Rattle.line_scripts.specs.declared.commands.Command.{Command}
@@ -53,6 +55,11 @@ abbrev pub script_records : Script → List Record
 script_records script =
     world_record (earliest_version script.n) script.n (mode_text script.mode)
     ∷ map (command_record script.n) script.commands
+
+-- a script that begins with a saved machine
+abbrev pub saved_script_records : SavedParts → List Command → List Record
+saved_script_records parts commands =
+    saved_records parts ++ map (command_record (length parts.history)) commands
 
 -- records of which the first is `world`, a version and these further fields
 abbrev pub with_version : List ℕ → Record → List Record → List Record

@@ -110,7 +110,7 @@ impl Blocks {
     /// How many they are.
     pub(crate) fn count(&self) -> u64
         ensures count { result ≡ length self.now }
-        ensures few { result + 2 < 2 ^ 64 }
+        ensures few { result + 2 ^ 63 < 2 ^ 64 }
     {
         let in_full = self.full.len() as u64 * IN_BLOCK as u64;
         in_full + self.last.kept.len() as u64
@@ -210,7 +210,7 @@ impl Commands {
     /// Those that were kept, in their order. It takes no memory.
     pub(crate) fn of(blocks: Blocks) -> Commands
         ensures same { result ≡ blocks }
-        ensures few { length blocks + 2 < 2 ^ 64 }
+        ensures few { length blocks + 2 ^ 63 < 2 ^ 64 }
     {
         let Blocks { full, last } = blocks;
         let mut others = full;

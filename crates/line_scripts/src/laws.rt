@@ -1,13 +1,22 @@
 //! Laws of the definitions, each the contract of a function that does nothing.
 
-ghost use Rattle.std.specs.Prelude.{◌≡◌, ◌≢◌, ◌≤◌, ◌∷◌, ◌++◌, ℕ, List, Err, Ok, codes};
+ghost use Rattle.std.specs.Prelude.{◌≡◌, ◌≢◌, ◌≤◌, ◌∷◌, ◌++◌, ℕ, List, Err, Ok, codes, false};
+ghost use Rattle.std.specs.Prelude.{length};
+ghost use Rattle.std.specs.List.{AllByRecursion};
 ghost use Rattle.line_fields.specs.declared.faults.Fault.TheVariants.{BadCount};
 ghost use Rattle.line_fields.specs.Records.{Record};
 ghost use Rattle.line_fields.specs.Texts.{records_text};
 ghost use Rattle.line_claims.specs.declared.versions.TheConstants.{MOST_IN_FIRST_VERSION};
+ghost use Rattle.line_claims.specs.Parts.{is_named};
 ghost use Rattle.line_claims.specs.Reads.{fault_of_record};
-ghost use Rattle.line_scripts.specs.Ranges.{IsScriptInRange};
-ghost use Rattle.line_scripts.specs.Records.{DifferInVersion, script_records, world_record};
+ghost use Rattle.line_claims.specs.Saved.{SavedParts};
+ghost use Rattle.line_claims.specs.SavedRanges.{IsSavedInRange};
+ghost use Rattle.line_scripts.specs.declared.commands.Command.{Command};
+ghost use Rattle.line_scripts.specs.Ranges.{IsCommandInRange, IsScriptInRange};
+ghost use Rattle.line_scripts.specs.Records.{DifferInVersion, saved_script_records};
+ghost use Rattle.line_scripts.specs.Records.{script_records, world_record};
+ghost use Rattle.line_scripts.specs.RunScripts.{Saved, as_run, read_as_run, run_script_of};
+ghost use Rattle.line_scripts.specs.RunScripts.{run_script_of_text, script_of_machine};
 ghost use Rattle.line_scripts.specs.Scripts.{Script, script_of, script_of_text};
 
 /// A script is read again from its own text, where the numbers of its commands keep to the ranges
@@ -16,6 +25,27 @@ ghost use Rattle.line_scripts.specs.Scripts.{Script, script_of, script_of_text};
 pub fn scripts_are_read_again()
     ensures { (script : Script) → IsScriptInRange script
         → script_of_text (records_text (script_records script)) ≡ Ok script }
+{}
+
+/// A script that begins with a saved machine is read again from its own text, where the machine and
+/// the numbers of its commands keep to the ranges of their fields and none of these is refused
+/// before its step.
+pub fn scripts_of_saved_machines_are_read_again()
+    ensures { (parts : SavedParts) (commands : List Command) → IsSavedInRange parts
+        → AllByRecursion (IsCommandInRange (length parts.history)) commands
+        → (first : ℕ)
+        × (run_script_of_text (records_text (saved_script_records parts commands))
+        ≡ Ok (script_of_machine (Saved parts) first commands)) }
+{}
+
+/// Records that begin with no saved machine spell for a run the script that they spell by
+/// themselves, or have the same first fault.
+pub fn scripts_are_run_as_read()
+    ensures records { (first : Record) (rest : List Record)
+        → is_named (codes "history") first ≡ false
+        → run_script_of (first ∷ rest) ≡ read_as_run (script_of (first ∷ rest)) }
+    ensures texts { (text : List ℕ) (script : Script) → script_of_text text ≡ Ok script
+        → run_script_of_text text ≡ Ok (as_run script) }
 {}
 
 /// Among at most 64 processes, records spell the same script, or have the same fault, in either

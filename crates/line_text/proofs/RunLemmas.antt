@@ -1,6 +1,6 @@
 -- A run grows by one command, and so do its text and its count of refusals.
 use Rattle.std.proofs.Common.{inl, inr, ◌≡◌, ◌<◌, ◌≤◌, ℕ, ◌+◌, cond, List, [], ◌∷◌, ◌++◌, Option, append_assoc, drop, get_or, length, take, refl, sym, ap, ◌∙◌, subst, arith}
-use Rattle.std.specs.Prelude.{◌⊎◌, Bool, Err, Ok, Result}
+use Rattle.std.specs.Prelude.{◌⊎◌, Bool, Err, IfErr, Ok, Result}
 use Rattle.std.proofs.lemmas.List.{append-nil, drop_more, length-drop, take_more}
 use Rattle.line_claims.specs.declared.faults.TextFault.{TextFault}
 use Rattle.line_claims.specs.Reads.{IsOfText, no_memory}
@@ -11,8 +11,9 @@ use Rattle.line_devices.specs.Devices.{Puts, PutsButEnd, PutsFront}
 use Rattle.line_devices.proofs.PutLemmas.{front_of_front, holds_all, holds_more, puts_front_of_held, puts_of_held}
 use Rattle.line_answers.specs.Answers.{DoesFront, TellsAll, CommandAnswer, refusals, text_of, command_answer_records}
 use Rattle.line_answers.proofs.AnswerLemmas.{TellsAll-both, one_refusal, refusals-push, refusals_one, text_of-append, text_of-one}
-use Rattle.line_text.specs.Runs.{DoesOne, IsRunTo, Runs, RunsFront, RunsText, RunsTextFront, StopsAt, StopsText, first_of}
-use Rattle.line_scripts.specs.Scripts.{Script, script_of_text}
+use Rattle.line_text.specs.declared.ends.TheConstants.{WRITE_FAULT}
+use Rattle.line_text.specs.Runs.{DoesOne, IsOfRun, IsRunTo, Runs, RunsFront, RunsText, RunsTextFront, StopsAt, StopsText, first_of}
+use Rattle.line_scripts.specs.RunScripts.{RunScript, run_script_of_text}
 use Rattle.std.proofs.Math.Seq.{take-add}
 
 -- commands that stopped, of whose text a front was put
@@ -22,19 +23,19 @@ stops_front first commands i old new h =
     let all : List CommandAnswer = h.told ++ more in
     let text : text_of all ≡ (text_of h.told ++ h.own) ++ h.next.rest =
     text_of-append h.told more ∙ ap (λ (t : List ℕ). text_of h.told ++ t) h.next.text ∙ sym (append_assoc (text_of h.told) h.own h.next.rest) in
-    let run : TellsAll first (take h.done commands ++ take (length more) (drop h.done commands)) all h.next.end =
-    TellsAll-both first h.end h.next.end (take h.done commands) (take (length more) (drop h.done commands)) h.told more h.run h.next.run in
+    let run : TellsAll first (take i commands ++ take (length more) (drop i commands)) all h.next.end =
+    TellsAll-both first h.end h.next.end (take i commands) (take (length more) (drop i commands)) h.told more h.run h.next.run in
     record {
-      done = h.done + length more;
+      done = i + length more;
       told = all;
       end = h.next.end;
-      run = subst (λ (cs : List Command). TellsAll first cs all h.next.end) (sym (take-add h.done (length more) commands)) run;
+      run = subst (λ (cs : List Command). TellsAll first cs all h.next.end) (sym (take-add i (length more) commands)) run;
       text = subst (λ (t : List ℕ). PutsFront old new t) (sym text) (front_of_front old new (text_of h.told ++ h.own) h.next.rest h.text);
     }
 
 -- the text of commands that stopped, seen otherwise
 pub stops_with : (first : LiveMachine) (commands : List Command) (i : ℕ) (P Q : List ℕ → Type 0) → ((text : List ℕ) → P text → Q text) → StopsAt first commands i P → StopsAt first commands i Q
-stops_with first commands i P Q f h = record { done = h.done; told = h.told; end = h.end; own = h.own; at = h.at; there = h.there; run = h.run; next = h.next; text = f (text_of h.told ++ h.own) h.text }
+stops_with first commands i P Q f h = record { told = h.told; end = h.end; own = h.own; there = h.there; run = h.run; next = h.next; text = f (text_of h.told ++ h.own) h.text }
 
 -- the first of the commands that are left
 pub first_left : (all left rest : List Command) (i : ℕ) (c : Command) → left ≡ drop i all → left ≡ c ∷ rest → (i < length all) × (c ≡ get_or all i c) × (rest ≡ drop (i + 1) all)
@@ -104,46 +105,42 @@ front_in first mid later commands i command refused old now new held lt is befor
 
 -- memory did not suffice for a command, and nothing of it was put
 pub stops_in : (first mid : LiveMachine) (commands : List Command) (i refused : ℕ) (old now new : Option (List ℕ)) (held later : List ℕ) → i < length commands → new ≡ now → later ≡ held
-    → IsRunTo first commands i mid refused old now held → StopsAt first commands (i + 2) (λ text. PutsButEnd old new later text)
+    → IsRunTo first commands i mid refused old now held → StopsAt first commands i (λ text. PutsButEnd old new later text)
 stops_in first mid commands i refused old now new held later lt same_taken same_held before = record {
-  done = i;
   told = before.told;
   end = mid;
   own = [];
-  at = refl;
   there = lt;
   run = before.run;
   next = record { told = []; end = mid; rest = []; one = omega arith; run = refl; text = refl };
   text = rw (same_taken, same_held) (subst (λ (t : List ℕ). PutsButEnd old now held t) (sym (append-nil (text_of before.told))) before.text);
 }
 
--- commands that are those of a script, on the machine that it begins with
-pub runs_text : (text : List ℕ) (script : Script) (first : LiveMachine) (commands : List Command) (refused : ℕ) (old new : Option (List ℕ)) → script_of_text text ≡ Ok script → first ≡ first_of script → commands ≡ script.commands
-    → Runs first commands refused old new → RunsText text refused old new
-runs_text text script first commands refused old new spelt start all runs = record {
-  script = script;
-  spelt = spelt;
-  runs = subst (λ (m : LiveMachine). Runs m script.commands refused old new) start (subst (λ (cs : List Command). Runs first cs refused old new) all runs);
-}
+-- what is told of the commands of a script is told of the text that spells it
+pub runs_text : (text : List ℕ) (script : RunScript) (refused : ℕ) (old new : Option (List ℕ)) → run_script_of_text text ≡ Ok script → Runs (first_of script) script.commands refused old new → RunsText text refused old new
+runs_text text script refused old new spelt runs = record { script = script; spelt = spelt; runs = runs }
 
-pub front_of_text : (text : List ℕ) (script : Script) (first : LiveMachine) (commands : List Command) (old new : Option (List ℕ)) → script_of_text text ≡ Ok script → first ≡ first_of script → commands ≡ script.commands
-    → RunsFront first commands old new → RunsTextFront text old new
-front_of_text text script first commands old new spelt start all runs = record {
-  script = script;
-  spelt = spelt;
-  runs = subst (λ (m : LiveMachine). RunsFront m script.commands old new) start (subst (λ (cs : List Command). RunsFront first cs old new) all runs);
-}
+pub front_of_text : (text : List ℕ) (script : RunScript) (old new : Option (List ℕ)) → run_script_of_text text ≡ Ok script → RunsFront (first_of script) script.commands old new → RunsTextFront text old new
+front_of_text text script old new spelt runs = record { script = script; spelt = spelt; runs = runs }
 
-pub stops_text : (text : List ℕ) (script : Script) (first : LiveMachine) (commands : List Command) (i : ℕ) (old new : Option (List ℕ)) → script_of_text text ≡ Ok script → first ≡ first_of script → commands ≡ script.commands
-    → StopsAt first commands i (Puts old new) → StopsText text i old new
-stops_text text script first commands i old new spelt start all runs = record {
-  script = script;
-  spelt = spelt;
-  runs = subst (λ (m : LiveMachine). StopsAt m script.commands i (Puts old new)) start (subst (λ (cs : List Command). StopsAt first cs i (Puts old new)) all runs);
-}
+pub stops_text : (text : List ℕ) (script : RunScript) (i : ℕ) (old new : Option (List ℕ)) → run_script_of_text text ≡ Ok script → (done : ℕ) × (i ≡ script.first + done) × StopsAt (first_of script) script.commands done (Puts old new) → StopsText text i old new
+stops_text text script i old new spelt stopped = record { script = script; spelt = spelt; done = stopped.0; at = stopped.1; runs = stopped.2 }
 
 -- a fault of a text that was read is the first one
 pub fault_of_text : {A : Type 0} (read : Result A TextFault) (fault : TextFault) → (fault ≡ no_memory) ⊎ (read ≡ Err fault) → IsOfText fault → read ≡ Err fault
 fault_of_text read fault (inl none) (inl low) = let zero : fault.code ≡ 0 = ap (λ (f : TextFault). f.code) none in absurd (omega (arith, zero, low.0))
 fault_of_text read fault (inl none) (inr forty) = let zero : fault.code ≡ 0 = ap (λ (f : TextFault). f.code) none in absurd (omega (arith, zero, forty))
 fault_of_text read fault (inr first) of_text = first
+
+-- neither want of memory nor a failed sink is a fault by which a text is not run
+not_of_run : (fault : TextFault) → (fault.code ≡ 0) ⊎ (fault.code ≡ WRITE_FAULT) → IsOfRun fault → ⊥
+not_of_run fault (inl none) (inl (inl low)) = omega (arith, none, low.0)
+not_of_run fault (inl none) (inl (inr forty)) = omega (arith, none, forty)
+not_of_run fault (inl none) (inr names) = omega (arith, none, names)
+not_of_run fault (inr write) (inl (inl low)) = let sink : fault.code ≡ 37 = write in omega (arith, sink, low.1)
+not_of_run fault (inr write) (inl (inr forty)) = let sink : fault.code ≡ 37 = write in omega (arith, sink, forty)
+not_of_run fault (inr write) (inr names) = let sink : fault.code ≡ 37 = write in omega (arith, sink, names)
+
+pub begun_once : {A : Type 0} (result : Result A TextFault) (P : TextFault → Type 0) → IfErr result (λ fault. (fault.code ≡ 0) ⊎ (fault.code ≡ WRITE_FAULT)) → IfErr result (λ fault. IsOfRun fault → P fault)
+begun_once (Ok x) P h = tt
+begun_once (Err fault) P h = λ of_run. absurd (not_of_run fault h of_run)

@@ -17,13 +17,12 @@ use Rattle.line_claims.specs.Readings.{CheckPlace, EndsBefore, text_left}
 use Rattle.line_claims.specs.Texts.{check_of_text, check_view}
 use Rattle.line_claims.proofs.FaultLemmas.{check_text_faults, reads_codes}
 use Rattle.line_scripts.specs.declared.scripts.KeptScript as kept
-use Rattle.line_scripts.specs.Pieces.{at_end, begun_in}
+use Rattle.line_scripts.specs.Pieces.{ScriptPlace, script_text_left}
 use Rattle.line_scripts.specs.Reads.{kept_script_view}
-use Rattle.line_scripts.specs.Scripts.{Script, script_of_text}
-use Rattle.line_scripts.proofs.PieceLemmas.{ended_text}
+use Rattle.line_scripts.specs.RunScripts.{run_script_of_text}
 use Rattle.line_text.proofs.RunLemmas.{fault_of_text}
 use Rattle.line_text.specs.declared.ends.TheConstants.{READ_FAULT}
-use Rattle.line_text.specs.Inputs.{HasCome, HasTakenCheck, HasHeard, HearsEnd, IsReadTo}
+use Rattle.line_text.specs.Inputs.{HasCome, HasTakenCheck, HasTakenScript, HasHeard, HearsEnd, IsReadTo}
 
 -- the last line feed, as `memrchr` finds it
 pub feed_found : (bytes : List ℕ) (at : Option ℕ) → IsLastByte (is_byte 10) bytes at → IfSome at (λ k. (k < length bytes) × (get_or bytes k 0 ≡ 10))
@@ -160,15 +159,21 @@ ends_not before now later count some is same =
 
 -- ---- the script of a text that was read whole
 
-pub spelt_if_ok : (result : Result kept.KeptScript TextFault) (old new : Option (List ℕ)) (given later : ℕ) (begun : Result (Option Script) TextFault) → (text : List ℕ) × GivesAll text old new given later × (begun ≡ begun_in text)
-    → IfOk result (λ script. at_end begun ≡ Ok (kept_script_view script)) → IfOk result (λ script. (text : List ℕ) × GivesAll text old new given later × (script_of_text text ≡ Ok (kept_script_view script)))
-spelt_if_ok (Err fault) old new given later begun whole ok = tt
-spelt_if_ok (Ok script) old new given later begun (text, gives, is) ok = (text, gives, sym (ended_text text) ∙ ap at_end (sym is) ∙ ok)
+pub spelt_if_ok : (result : Result kept.KeptScript TextFault) (old new : Option (List ℕ)) (given later : ℕ) (place : ScriptPlace) → (text : List ℕ) × GivesAll text old new given later × HasTakenScript place text
+    → Reads kept_script_view result (script_text_left place []) → IfOk result (λ script. (text : List ℕ) × GivesAll text old new given later × (run_script_of_text text ≡ Ok (kept_script_view script)))
+spelt_if_ok (Err fault) old new given later place whole reads = tt
+spelt_if_ok (Ok script) old new given later place (text, gives, taken) reads = (text, gives, ap run_script_of_text (sym (append-nil text)) ∙ taken [] (inl refl) ∙ reads)
 
-pub fault_if_err : (result : Result kept.KeptScript TextFault) (old new : Option (List ℕ)) (given later : ℕ) (begun : Result (Option Script) TextFault) → (text : List ℕ) × GivesAll text old new given later × (begun ≡ begun_in text)
-    → IfErr result (λ fault. at_end begun ≡ Err fault) → IfErr result (λ fault. IsOfText fault → (text : List ℕ) × GivesAll text old new given later × (script_of_text text ≡ Err fault))
-fault_if_err (Ok script) old new given later begun whole err = tt
-fault_if_err (Err fault) old new given later begun (text, gives, is) err = λ of_text. (text, gives, sym (ended_text text) ∙ ap at_end (sym is) ∙ err)
+pub fault_if_err : (result : Result kept.KeptScript TextFault) (old new : Option (List ℕ)) (given later : ℕ) (place : ScriptPlace) → (text : List ℕ) × GivesAll text old new given later × HasTakenScript place text
+    → Reads kept_script_view result (script_text_left place []) → IfErr result (λ fault. IsOfText fault → (text : List ℕ) × GivesAll text old new given later × (run_script_of_text text ≡ Err fault))
+fault_if_err (Ok script) old new given later place whole reads = tt
+fault_if_err (Err fault) old new given later place (text, gives, taken) reads =
+    λ of_text. (text, gives, ap run_script_of_text (sym (append-nil text)) ∙ taken [] (inl refl) ∙ fault_of_text (script_text_left place []) fault reads of_text)
+
+-- a fault of a text is one of those that a call that reads has
+pub script_codes : (result : Result kept.KeptScript TextFault) → IfErr result IsOfText → IfErr result (λ fault. (fault ≡ no_memory) ⊎ IsOfText fault)
+script_codes (Ok script) h = tt
+script_codes (Err fault) h = inr h
 
 -- ---- the check text that was read whole
 
@@ -206,6 +211,12 @@ pub taken_of_check : {A E : Type 0} (result : Result A E) (old new : CheckPlace)
 taken_of_check (Err e) old new piece taken = tt
 taken_of_check (Ok x) old new piece taken = λ front ends before rest after.
     ap check_of_text (append_assoc front piece rest) ∙ before (piece ++ rest) (inr ends) ∙ taken rest (ends_before front piece rest after)
+
+pub taken_of_script : {A E : Type 0} (result : Result A E) (old new : ScriptPlace) (piece : List ℕ) → OnOk result ((rest : List ℕ) → EndsBefore piece rest → script_text_left old (piece ++ rest) ≡ script_text_left new rest)
+    → OnOk result ((front : List ℕ) → EndsLine front → HasTakenScript old front → HasTakenScript new (front ++ piece))
+taken_of_script (Err e) old new piece taken = tt
+taken_of_script (Ok x) old new piece taken = λ front ends before rest after.
+    ap run_script_of_text (append_assoc front piece rest) ∙ before (piece ++ rest) (inr ends) ∙ taken rest (ends_before front piece rest after)
 
 -- what is told of a fault of the text alone
 not_read : (fault : TextFault) → (fault ≡ no_memory) ⊎ IsOfText fault → fault.code ≡ READ_FAULT → ⊥

@@ -6,6 +6,8 @@ use Rattle.line_claims.specs.Reads.{no_memory}
 use Rattle.line_devices.specs.Devices.{Fills, one_more}
 use Rattle.line_claims.specs.Readings.{CheckPlace, EndsBefore, text_left}
 use Rattle.line_claims.specs.Texts.{check_of_text}
+use Rattle.line_scripts.specs.Pieces.{ScriptPlace, script_text_left}
+use Rattle.line_scripts.specs.RunScripts.{run_script_of_text}
 use Rattle.line_text.specs.declared.ends.TheConstants.{READ_FAULT}
 use Rattle.line_text.specs.declared.windows.Window.{Window}
 
@@ -47,3 +49,9 @@ pub record HasCome (old new : Option (List ℕ)) (long : ℕ) (held : List ℕ)
 abbrev pub HasTakenCheck : CheckPlace → List ℕ → Type 0
 HasTakenCheck place text =
     (rest : List ℕ) → EndsBefore text rest → check_of_text (text ++ rest) ≡ text_left place rest
+
+-- what is still to come of a script that begins with this text is read as it is of the whole
+abbrev pub HasTakenScript : ScriptPlace → List ℕ → Type 0
+HasTakenScript place text =
+    (rest : List ℕ) → EndsBefore text rest
+    → run_script_of_text (text ++ rest) ≡ script_text_left place rest

@@ -7,26 +7,28 @@ ghost use Rattle.line_devices.specs.Reads.{GivesAll, IsTooLong};
 ghost use Rattle.line_names.specs.declared.limits.TheConstants.{MOST_PROCESSES};
 ghost use Rattle.line_claims.specs.Reads.{IsOfText, no_memory};
 ghost use Rattle.line_text.specs.declared.ends.TheConstants.{READ_FAULT, WRITE_FAULT};
-ghost use Rattle.line_scripts.specs.Reads.{IsOfScript, kept_script_view};
+ghost use Rattle.line_live.specs.Lives.{start_live};
+ghost use Rattle.line_scripts.specs.Reads.{IsKeptMachine, kept_script_view, machine_view};
+ghost use Rattle.line_scripts.specs.RunScripts.{run_script_of_text};
 ghost use Rattle.line_text.specs.Inputs.{HearsEnd};
 ghost use Rattle.line_text.specs.Runs as spec;
-ghost use Rattle.line_scripts.specs.Scripts.{script_of_text};
 
 use crate::ends::{WRITE_FAULT, fault_of_code, put};
 use crate::windows::read_lines;
-use line_answers::{Halt, do_command};
-use line_claims::TextFault;
+use line_answers::{Halt, do_command, open_saved};
+use line_claims::{TextFault, told};
 use line_devices::{Sink, Source};
 use line_fields::RecordWriter;
 use line_live::Live;
-use line_scripts::{Commands, KeptScript, ScriptReader};
+use line_scripts::{Commands, KeptMachine, KeptScript, ScriptReader};
+use line_steps::Mode;
 use line_tape::CountError;
 use std::alloc::Global;
 
 // Why commands were not done to their end.
 #[derive(Clone, Copy)]
 enum RunStop {
-    // Memory did not suffice for the command of that record.
+    // Memory did not suffice for the command after so many.
     Memory(u64),
     // The sink failed.
     Write,
@@ -49,7 +51,7 @@ fn do_commands<K: Sink>(
     writer: &mut RecordWriter,
 ) -> Result<u64, RunStop>
     requires empty { writer.old ≡ [] }
-    requires few { length commands.old + 2 < 2 ^ 64 }
+    requires few { length commands.old < 2 ^ 64 }
     ensures ok { IfOk result
         (λ refused. spec.IsRunTo world.old commands.old (length commands.old) world.new refused
         (K.taken sink.old) (K.taken sink.new) writer.new) }
@@ -68,7 +70,7 @@ fn do_commands<K: Sink>(
         };
         match do_command(alloc, world, sink, writer, &command) {
             Ok(told) => refused += told as u64,
-            Err(Halt::Memory) => return Err(RunStop::Memory(done + 2)),
+            Err(Halt::Memory) => return Err(RunStop::Memory(done)),
             Err(Halt::Write) => return Err(RunStop::Write),
         }
         commands.drop_first();
@@ -77,16 +79,17 @@ fn do_commands<K: Sink>(
 }
 
 // Does the commands one after another, and puts the text of what they are told. It answers how many
-// were refused.
+// were refused. The record of the first command has that number.
 fn run_commands<K: Sink>(
     alloc: Global,
     world: &mut Live,
+    first: u64,
     commands: &mut Commands,
     sink: &mut K,
     writer: &mut RecordWriter,
 ) -> Result<u64, TextFault>
     requires empty { writer.old ≡ [] }
-    requires few { length commands.old + 2 < 2 ^ 64 }
+    requires few { length commands.old + first < 2 ^ 64 }
     ensures ok { IfOk result
         (λ refused. spec.Runs world.old commands.old refused (K.taken sink.old)
         (K.taken sink.new)) }
@@ -95,8 +98,8 @@ fn run_commands<K: Sink>(
         × spec.RunsFront world.old commands.old (K.taken sink.old) (K.taken sink.new)) }
     ensures memory { IfErr result
         (λ fault. fault.code ≡ 0
-        → spec.StopsAt world.old commands.old fault.record_number
-        (Puts (K.taken sink.old) (K.taken sink.new))) }
+        → (done : ℕ) × (fault.record_number ≡ first + done)
+        × spec.StopsAt world.old commands.old done (Puts (K.taken sink.old) (K.taken sink.new))) }
     ensures codes { IfErr result (λ fault. (fault.code ≡ 0) ⊎ (fault.code ≡ WRITE_FAULT)) }
     ensures sound { OnOk result (K.faults sink.new ≡ K.faults sink.old) }
 {
@@ -105,9 +108,9 @@ fn run_commands<K: Sink>(
             Ok(()) => Ok(refused),
             Err(_) => Err(fault_of_code(WRITE_FAULT)),
         },
-        Err(RunStop::Memory(record_number)) => match put(sink, writer.text()) {
+        Err(RunStop::Memory(done)) => match put(sink, writer.text()) {
             Ok(()) => Err(TextFault {
-                record_number,
+                record_number: first + done,
                 code: 0,
             }),
             Err(_) => Err(fault_of_code(WRITE_FAULT)),
@@ -116,47 +119,71 @@ fn run_commands<K: Sink>(
     }
 }
 
-// The machine that a script begins with.
-fn world_of(alloc: Global, script: &KeptScript) -> Result<Live, TextFault>
-    requires { (1 ≤ script.now.n) × (script.now.n ≤ MOST_PROCESSES) }
-    ensures ok { IfOk result (λ world. world ≡ spec.first_of (kept_script_view script.now)) }
+// A new machine.
+fn new_machine(alloc: Global, n: u32, mode: Mode) -> Result<Live, TextFault>
+    requires { (1 ≤ n) × (n ≤ MOST_PROCESSES) }
+    ensures ok { IfOk result (λ world. world ≡ start_live n mode) }
     ensures err { IfErr result (λ fault. fault ≡ no_memory) }
 {
-    match Live::new(alloc, script.n, script.mode) {
+    match Live::new(alloc, n, mode) {
         Ok(world) => Ok(world),
         Err(CountError::OutOfMemory) => Err(fault_of_code(0)),
         Err(CountError::BadCount) => unreachable!(),
     }
 }
 
+// The machine that a script begins with, the record of whose first command has that number. Of the
+// text of a saved one nothing is kept.
+fn machine_of(alloc: Global, machine: KeptMachine, first: u64) -> Result<Live, TextFault>
+    requires kept { IsKeptMachine machine }
+    requires first { 2 ≤ first }
+    ensures ok { IfOk result (λ world. world ≡ spec.begun_with (machine_view machine)) }
+    ensures err { IfErr result
+        (λ fault. (fault ≡ no_memory) ⊎ spec.IsUnbegun (machine_view machine) first fault) }
+{
+    match machine {
+        KeptMachine::New { n, mode } => new_machine(alloc, n, mode),
+        KeptMachine::Saved(text) => match open_saved(alloc, &text) {
+            Ok(world) => Ok(world),
+            Err(cause) => Err(told(cause.at(first - 1))),
+        },
+    }
+}
+
 // Runs a script from its start. It makes the machine and the room for the text of what its commands
 // are told, and lends both to what does them.
-fn run_script<K: Sink>(
-    alloc: Global,
-    script: &mut KeptScript,
-    sink: &mut K,
-) -> Result<u64, TextFault>
-    requires within { (1 ≤ script.old.n) × (script.old.n ≤ MOST_PROCESSES) }
-    requires few { length script.old.commands + 2 < 2 ^ 64 }
+fn run_script<K: Sink>(alloc: Global, script: KeptScript, sink: &mut K) -> Result<u64, TextFault>
+    requires machine { IsKeptMachine script.machine }
+    requires first { 2 ≤ script.first }
+    requires few { length script.commands + script.first < 2 ^ 64 }
     ensures ok { IfOk result
-        (λ refused. spec.Runs (spec.first_of (kept_script_view script.old)) script.old.commands
+        (λ refused. spec.Runs (spec.begun_with (machine_view script.machine)) script.commands
         refused (K.taken sink.old) (K.taken sink.new)) }
+    ensures unbegun { IfErr result (λ fault. spec.IsOfRun fault
+        → (sink.new ≡ sink.old) × spec.IsUnbegun (machine_view script.machine) script.first fault) }
     ensures write { IfErr result (λ fault. fault.code ≡ WRITE_FAULT
         → (fault.record_number ≡ 0) × (K.faults sink.new ≡ one_more (K.faults sink.old))
-        × spec.RunsFront (spec.first_of (kept_script_view script.old)) script.old.commands
+        × spec.RunsFront (spec.begun_with (machine_view script.machine)) script.commands
         (K.taken sink.old) (K.taken sink.new)) }
     ensures memory { IfErr result (λ fault. fault.code ≡ 0
         → ((fault.record_number ≡ 0) × (sink.new ≡ sink.old))
-        ⊎ spec.StopsAt (spec.first_of (kept_script_view script.old)) script.old.commands
-        fault.record_number (Puts (K.taken sink.old) (K.taken sink.new))) }
-    ensures codes { IfErr result (λ fault. (fault.code ≡ 0) ⊎ (fault.code ≡ WRITE_FAULT)) }
+        ⊎ ((done : ℕ) × (fault.record_number ≡ script.first + done)
+        × spec.StopsAt (spec.begun_with (machine_view script.machine)) script.commands done
+        (Puts (K.taken sink.old) (K.taken sink.new)))) }
+    ensures codes { IfErr result
+        (λ fault. (fault.code ≡ 0) ⊎ (fault.code ≡ WRITE_FAULT) ⊎ spec.IsOfRun fault) }
     ensures sound { OnOk result (K.faults sink.new ≡ K.faults sink.old) }
 {
     let Ok(mut writer) = RecordWriter::with_room(alloc) else {
         return Err(fault_of_code(0));
     };
-    let mut world = world_of(alloc, script)?;
-    run_commands(alloc, &mut world, &mut script.commands, sink, &mut writer)
+    let KeptScript {
+        machine,
+        first,
+        mut commands,
+    } = script;
+    let mut world = machine_of(alloc, machine, first)?;
+    run_commands(alloc, &mut world, first, &mut commands, sink, &mut writer)
 }
 
 // The script that the whole input spells. No text of the input is kept.
@@ -165,21 +192,22 @@ fn script_of<S: Source>(alloc: Global, source: &mut S) -> Result<KeptScript, Tex
         (λ script. (text : List ℕ)
         × GivesAll text (S.left source.old) (S.left source.new) (S.given source.old)
         (S.given source.new)
-        × (script_of_text text ≡ Ok (kept_script_view script))) }
-    ensures within { IfOk result (λ script. (1 ≤ script.n) × (script.n ≤ MOST_PROCESSES)) }
-    ensures few { IfOk result (λ script. length script.commands + 2 < 2 ^ 64) }
+        × (run_script_of_text text ≡ Ok (kept_script_view script))) }
+    ensures machine { IfOk result (λ script. IsKeptMachine script.machine) }
+    ensures first { IfOk result (λ script. 2 ≤ script.first) }
+    ensures few { IfOk result (λ script. length script.commands + script.first < 2 ^ 64) }
     ensures text { IfErr result (λ fault. IsOfText fault
         → (text : List ℕ)
         × GivesAll text (S.left source.old) (S.left source.new) (S.given source.old)
         (S.given source.new)
-        × (script_of_text text ≡ Err fault)) }
+        × (run_script_of_text text ≡ Err fault)) }
     ensures read { IfErr result (λ fault. fault.code ≡ READ_FAULT
         → (S.faults source.new ≡ one_more (S.faults source.old))
         ⊎ IsTooLong (S.left source.old) (S.given source.old) (S.given source.new)) }
     ensures codes { IfErr result
         (λ fault. (fault ≡ no_memory)
         ⊎ (fault ≡ record { record_number = 0; code = READ_FAULT })
-        ⊎ IsOfScript fault) }
+        ⊎ IsOfText fault) }
     ensures heard { OnOk result (S.faults source.new ≡ S.faults source.old) }
     ensures told { IfErr result
         (λ fault. fault.code ≢ READ_FAULT → S.faults source.new ≡ S.faults source.old) }
@@ -192,15 +220,17 @@ fn script_of<S: Source>(alloc: Global, source: &mut S) -> Result<KeptScript, Tex
 
 /// Reads a script, runs it, and writes the replies.
 ///
-/// The whole script is read, and every fault of it found, before the first command runs. A fault of
-/// the text is the first one, with the number of its record. `ReadFault` says that the source
-/// failed or that the input is too long, and `WriteFault` that the sink failed, both of record 0.
-/// Where memory does not suffice for a command, the fault 0 has the number of its record, and
-/// elsewhere record 0. Among a given number of processes it takes memory in proportion to the
-/// input, and beside that what the channels of all listed rounds hold: where many messages stay in
-/// transit through many rounds that is the product of both. It puts the replies in pieces of some
-/// 64 KiB, also within a history, a bundle or listed rounds, and holds no more of them than such a
-/// piece and a record.
+/// It begins with `world`, or with the text of a saved machine, which is opened. The whole script
+/// is read, and every fault of it found, before the machine is opened and the first command runs. A
+/// fault of the text is the first one, with the number of its record. Where there is none, but no
+/// machine has what was saved, the refusal of `open_saved` is of the last record of the saved text.
+/// `ReadFault` says that the source failed or that the input is too long, and `WriteFault` that the
+/// sink failed, both of record 0. Where memory does not suffice for a command, the fault 0 has the
+/// number of its record, and elsewhere record 0. Among a given number of processes it takes memory
+/// in proportion to the input, and beside that what the channels of all listed rounds hold: where
+/// many messages stay in transit through many rounds that is the product of both. It puts the
+/// replies in pieces of some 64 KiB, also within a history, a bundle or listed rounds, and holds no
+/// more of them than such a piece and a record.
 pub fn run_text<S: Source, K: Sink>(
     alloc: Global,
     source: &mut S,
@@ -213,13 +243,14 @@ pub fn run_text<S: Source, K: Sink>(
         (S.given source.new)
         × spec.RunsText text done.refused (K.taken sink.old) (K.taken sink.new)) }
 
-    // A fault of the text is its first, and then nothing is written.
-    ensures text { IfErr result (λ fault. IsOfText fault
+    // A fault of the text is its first, or the refusal of the machine that was saved, and then
+    // nothing is written.
+    ensures text { IfErr result (λ fault. spec.IsOfRun fault
         → (sink.new ≡ sink.old)
         × ((text : List ℕ)
         × GivesAll text (S.left source.old) (S.left source.new) (S.given source.old)
         (S.given source.new)
-        × (script_of_text text ≡ Err fault))) }
+        × spec.IsUnrunText text fault)) }
 
     // So it is where the source failed or the input is too long.
     ensures read { IfErr result (λ fault. fault.code ≡ READ_FAULT
@@ -246,7 +277,8 @@ pub fn run_text<S: Source, K: Sink>(
 
     // There are no other faults, a sound sink is not blamed, and no failure of the source is passed
     // over.
-    ensures codes { IfErr result (λ fault. fault.code ≤ WRITE_FAULT) }
+    ensures codes { IfErr result (λ fault. (fault.code ≡ 0) ⊎ (fault.code ≡ READ_FAULT)
+        ⊎ (fault.code ≡ WRITE_FAULT) ⊎ spec.IsOfRun fault) }
     ensures sound { OnOk result (K.faults sink.new ≡ K.faults sink.old) }
     ensures heard { OnOk result (S.faults source.new ≡ S.faults source.old) }
     ensures told { IfErr result
@@ -255,8 +287,8 @@ pub fn run_text<S: Source, K: Sink>(
     // Once the source said that nothing is left, it is asked no more.
     ensures ended { HearsEnd result (S.ends source.old) (S.ends source.new) }
 {
-    let mut script = script_of(alloc, source)?;
-    match run_script(alloc, &mut script, sink) {
+    let script = script_of(alloc, source)?;
+    match run_script(alloc, script, sink) {
         Ok(refused) => Ok(Done { refused }),
         Err(fault) => Err(fault),
     }

@@ -8,7 +8,6 @@ ghost use Rattle.line_claims.specs.Reads.{no_memory};
 ghost use Rattle.line_devices.specs.Devices.{IsDone, ends_after, one_more};
 ghost use Rattle.line_devices.specs.Reads.{GivesAll, IsTooLong};
 ghost use Rattle.line_devices.specs.declared.sources.TheConstants.{MOST_INPUT};
-ghost use Rattle.line_scripts.specs.Pieces.{begun_in};
 ghost use Rattle.line_text.specs.declared.ends.TheConstants.{READ_FAULT};
 ghost use Rattle.line_text.specs.Inputs.{HasHeard, HearsEnd, IsReadTo, waiting};
 
@@ -31,7 +30,9 @@ pub(crate) trait LineReader {
 }
 
 impl LineReader for ScriptReader {
-    ghost has_taken = { λ s text. s ≡ begun_in text };
+    ghost use Rattle.line_text.specs.Inputs.{HasTakenScript};
+
+    ghost has_taken = { λ s text. HasTakenScript s text };
 
     fn take_piece(&mut self, piece: &[u8]) -> Result<(), AllocError> {
         self.take(piece)

@@ -76,6 +76,7 @@ pub use Rattle.line_claims.specs.Versions
 pub use Rattle.line_scripts.specs.Ranges as ScriptRanges
 pub use Rattle.line_scripts.specs.Reads as ScriptReads
 pub use Rattle.line_scripts.specs.Records as ScriptRecords
+pub use Rattle.line_scripts.specs.RunScripts
 pub use Rattle.line_scripts.specs.Scripts
 pub use Rattle.line_answers.specs.Replies
 pub use Rattle.line_text.specs.Inputs

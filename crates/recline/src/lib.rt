@@ -87,7 +87,8 @@ pub mod text {
         Fault, FieldRow, ReadError, RecordReader, RecordWriter, hex, is_plain, number,
     };
     pub use line_scripts::{
-        Command, Script, read_script, scripts_are_read_again, version_2_reads_scripts_of_version_1,
+        Command, Script, read_script, scripts_are_read_again, scripts_are_run_as_read,
+        scripts_of_saved_machines_are_read_again, version_2_reads_scripts_of_version_1,
     };
     pub use line_text::{
         Done, check_text, claims_are_judged_alike_whatever_was_let_go,

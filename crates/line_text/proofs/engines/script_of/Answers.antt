@@ -1,13 +1,17 @@
-use Rattle.std.proofs.Common.{◌∙◌, sym}
-use Rattle.line_scripts.proofs.PieceLemmas.{nothing_begun}
-use Rattle.line_text.proofs.WindowLemmas.{fault_if_err, spelt_if_ok}
+use Rattle.line_text.proofs.WindowLemmas.{ended_if, fault_if_err, read_if_err, script_codes, spelt_if_ok, wider_codes}
 use Rattle.line_text.proofs.engines.script_of.Goals as goal
 
 pub returns-clause-spelt : goal.returns-clause-spelt
-returns-clause-spelt g c = spelt_if_ok c.into_script.result _ _ _ _ _ c.in_ok-read_lines.ensures.whole c.into_script.ensures.ok
+returns-clause-spelt g c = spelt_if_ok c.into_script.result _ _ _ _ _ c.in_ok-read_lines.ensures.whole c.into_script.ensures.exact
 
 pub returns-clause-text : goal.returns-clause-text
-returns-clause-text g c = fault_if_err c.into_script.result _ _ _ _ _ c.in_ok-read_lines.ensures.whole c.into_script.ensures.err
+returns-clause-text g c = fault_if_err c.into_script.result _ _ _ _ _ c.in_ok-read_lines.ensures.whole c.into_script.ensures.exact
 
-pub read_lines-requires : goal.read_lines-requires
-read_lines-requires g c = c.new-reader.ensures ∙ sym nothing_begun
+pub returns-clause-read : goal.returns-clause-read
+returns-clause-read g c = read_if_err c.into_script.result _ (script_codes c.into_script.result c.into_script.ensures.codes)
+
+pub returns-clause-codes : goal.returns-clause-codes
+returns-clause-codes g c = wider_codes c.into_script.result (script_codes c.into_script.result c.into_script.ensures.codes)
+
+pub returns-clause-ended : goal.returns-clause-ended
+returns-clause-ended g c = ended_if c.into_script.result _ _ (script_codes c.into_script.result c.into_script.ensures.codes) c.in_ok-read_lines.ensures.ended

@@ -1,5 +1,4 @@
-use Rattle.std.proofs.Common.{◌≡◌, ◌≤◌, length, refl, arith}
-use Rattle.line_claims.specs.Texts.{Check}
+use Rattle.std.proofs.Common.{refl, arith}
 use Rattle.line_claims.proofs.ClaimWrittenLemmas.{check_text_again}
 use Rattle.line_text.proofs.LawLemmas.{judged_the_same}
 use Rattle.line_text.proofs.laws.claims_are_judged_alike_whatever_was_let_go.Goals as goal
