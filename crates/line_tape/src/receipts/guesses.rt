@@ -34,8 +34,8 @@ fn met(receipts: &[Receipt], place: u32, end: u32, wanted: &Receipt) -> u32
     0
 }
 
-/// Where the way back to a number begins, which is not above that of the last receipt: at one of
-/// the sender behind which no receipt of the number is.
+/// Where the search for a number begins that is not above that of the last receipt: at a receipt of
+/// the sender after which none of the number comes.
 ///
 /// Where a sender's numbers come evenly, that is the receipt of the number itself, which stands
 /// among all receipts by proportion (interpolation search: Perl, Itai and Avni, Communications of
