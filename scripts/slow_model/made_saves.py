@@ -61,6 +61,7 @@ def may_have_been_saved(text: bytes) -> bool:
         for fields in records[1:]:
             saved.read(fields)
             if saved.is_whole:
+                saved.opened()
                 return saved.is_left()
     return True
 

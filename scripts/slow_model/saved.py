@@ -53,13 +53,8 @@ class Saved(Reading):
         self.part = "rounds"
 
     def read_saved(self, begun: int) -> None:
-        """The last record: what was read has to be a machine."""
+        """The last record."""
         self.begun = begun
-        marks = self.claim.marks
-        named = [*marks.damaged, *marks.bars.items()]
-        want(all(self.history.has_choice(p, check) for p, check in named), 4)
-        want(all(map(self.name_agrees, among(Recv, self.events()))), 38)
-        want(self.is_resumable(), 16)
         self.part = "end"
 
     def name_agrees(self, received: Recv) -> bool:
@@ -123,8 +118,13 @@ class Saved(Reading):
                 return False
         return all(map(marks_follow, self.tapes))
 
-    def world(self) -> World:
-        """The machine."""
+    def opened(self) -> World:
+        """The machine, where what was read is one."""
+        marks = self.claim.marks
+        named = [*marks.damaged, *marks.bars.items()]
+        want(all(self.history.has_choice(p, check) for p, check in named), 4)
+        want(all(map(self.name_agrees, among(Recv, self.events()))), 38)
+        want(self.is_resumable(), 16)
         world = World(self.n, "fifo")
         world.history, world.marks = self.history, self.claim.marks
         world.floors, world.begun = list(self.history.floors), self.begun

@@ -28,7 +28,6 @@ READERS: dict[str, list[Callable[[str], Any]]] = {
 OF_FAILED = ["recover", "bundle", "plan", "answer"]  # with any number of processes
 OF_ROUND = "forget"  # with the number of a round, or without
 METHODS = {"history": "history_text"}  # where the world's method has another name
-RUN_TAKES_SAVED = False  # whether `recline run` begins with a saved machine, as `recline serve`
 
 
 def world_of(fields: Sequence[str]) -> tuple[int, str]:
@@ -58,13 +57,23 @@ def begun_by(fields: Sequence[str]) -> World | Saved:
 
 
 def read_script(text: bytes) -> tuple[World, list[Command]]:
-    """The machine that a script begins with, and its commands."""
+    """The machine that a script begins with, and its commands.
+
+    A machine that was saved is opened once all is read.
+    """
     records = list(enumerate(records_of(text), 1))
-    begun: World | Saved = numbered(1, begun_by if RUN_TAKES_SAVED else new_world, records[0][1])
+    begun: World | Saved = numbered(1, begun_by, records[0][1])
     rest = iter(records[1:])
-    if isinstance(begun, Saved):
-        begun = read_saved(begun, rest, len(records))
-    return begun, [numbered(i, command_of, fields) for i, fields in rest]
+    if isinstance(begun, World):
+        return begun, commands_of(rest)
+    last = read_saved(begun, rest, len(records))
+    commands = commands_of(rest)
+    return numbered(last, begun.opened), commands
+
+
+def commands_of(records: Iterator[tuple[int, list[str]]]) -> list[Command]:
+    """The commands that records spell."""
+    return [numbered(i, command_of, fields) for i, fields in records]
 
 
 def read_saved_text(text: bytes) -> World:
@@ -72,18 +81,18 @@ def read_saved_text(text: bytes) -> World:
     records = list(enumerate(records_of(text), 1))
     saved = numbered(1, begin, records[0][1])
     rest = iter(records[1:])
-    world = read_saved(saved, rest, len(records))
+    last = read_saved(saved, rest, len(records))
     for i, _ in rest:
         raise Fault(32, i)
-    return world
+    return numbered(last, saved.opened)
 
 
-def read_saved(saved: Saved, records: Iterator[tuple[int, list[str]]], last: int) -> World:
-    """The machine that the next records spell to the last one that is read of it."""
+def read_saved(saved: Saved, records: Iterator[tuple[int, list[str]]], last: int) -> int:
+    """Reads the next records to the last one of a saved machine, and answers its number."""
     for i, fields in records:
         numbered(i, saved.read, fields)
         if saved.is_whole:
-            return saved.world()
+            return i
     raise Fault(32, last + 1)
 
 

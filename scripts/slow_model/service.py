@@ -96,4 +96,4 @@ class Service:
             return
         self.saved.read(fields)
         if self.saved.is_whole:
-            self.world, self.saved = self.saved.world(), None
+            self.world, self.saved = self.saved.opened(), None

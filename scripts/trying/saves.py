@@ -6,7 +6,8 @@ Each case is a random script of rounds, recoveries, damage, bars, `forget` and `
 where no round is open `save` is put in. A service then begins with the saved text in place of a
 `world`, and has the rest of the script: it answers each record of the text by an empty line, and
 then, to the byte, what the script is answered that went on. What it saves at once is the text that
-it began with. So answers a service that reads the text from a file.
+it began with. So answers a service that reads the text from a file, and so is a script answered
+that begins with the text and has the rest.
 
 The slow model answers (scripts/slow_model), or the program that is named. The last line says how
 many cases there were; the status is 0 where none differs.
@@ -115,8 +116,7 @@ def compare(tried: Tried, chance: random.Random, is_read: bool) -> list[str]:
     same("saved at once again", tried.serve(saved + SAVE), f"{empty}{saved}\n")
     answers = tried.serve(text_of(saved, rest))
     same("a service", answers.removeprefix(empty).replace("\n\n", "\n"), later)
-    if scripts.RUN_TAKES_SAVED:
-        same("a script", tried.run(text_of(saved, rest)), later)
+    same("a script", tried.run(text_of(saved, rest)), later)
     counted = ["saved", *(["saved with a floor"] if "\nfloor,0,0,0\n" not in saved else [])]
     if is_read:
         same("a service --from", empty + tried.serve_from(saved, text_of("", rest)), answers)

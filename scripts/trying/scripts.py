@@ -39,7 +39,7 @@ def case_of(seed: int, case: int) -> tuple[str, bytes, Answer]:
     chance = random.Random(f"{seed} {case}")
     if random.Random(f"saves {seed} {case}").random() < SAVED:
         text = some_saved_script(chance)
-        return ("run", text, scripts.run(text)) if case % 4 == 0 else ("serve", text, served(text))
+        return ("run", text, scripts.run(text)) if case % 2 == 0 else ("serve", text, served(text))
     if chance.random() < 0.4:
         text = some_check_text(chance)
         return "check", text, claims.check(text)

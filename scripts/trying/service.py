@@ -49,7 +49,6 @@ import service_trials
 from conversations import WRITE_FAULT, Conversation, Difference, same
 from service_jobs import JOBS, Job
 from slow_model.made_conversations import answers_to, good_records, some_pieces
-from slow_model.scripts import RUN_TAKES_SAVED
 
 # So many requests of one input are refused, and so many calls of it fail.
 SOME = 6
@@ -96,7 +95,7 @@ class Case:
     def compare_run(self) -> None:
         """Asks that the good records alone are answered alike by `recline run`."""
         good, replies = good_records(self.text, self.tried.job.model)
-        if good and (RUN_TAKES_SAVED or not good.startswith(b"history")):
+        if good:
             ran = subprocess.run(self.tried.run, input=good, capture_output=True, check=False)
             same(ran.stdout, replies)
 
