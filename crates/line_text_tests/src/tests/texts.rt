@@ -35,6 +35,29 @@ recovered,1,0,0\n\
 line,0,now,0,-\n\
 line,1,2,1,b2\n";
 
+/// A saved machine, and commands after it.
+const SAVED_MACHINE: &[u8] = b"\
+history,4,2\n\
+floor,0,2,1\n\
+floor,1,2,0\n\
+tape,0,0\n\
+check,a2,-\n\
+send,1,0,62\n\
+tape,1,0\n\
+check,b2,-\n\
+bar,1,1\n\
+round,1,1,1\n\
+saved,1\n\
+plan,1\n\
+deliver,0,1,0,\n";
+
+const SAVED_MACHINE_TOLD: &[u8] = b"\
+planned,1,0,1\n\
+line,0,now,0,-\n\
+line,1,2,1,b2\n\
+replay,0,0,1\n\
+took,0,0,1,-\n";
+
 /// Whether a whole script is read.
 fn is_script_read(alloc: Global) -> bool {
     match read_script(alloc, THREE_CHECKS) {
@@ -46,6 +69,23 @@ fn is_script_read(alloc: Global) -> bool {
 #[test]
 fn reads_a_whole_script(rt: HostRuntime) {
     assert!(rt; is_script_read(rt.alloc()));
+}
+
+/// Whether a text that begins with a saved machine is no script that begins with `world`.
+fn is_no_script(alloc: Global) -> bool {
+    let no_world = TextFault {
+        record_number: 1,
+        code: 34,
+    };
+    match read_script(alloc, SAVED_MACHINE) {
+        Ok(_) => false,
+        Err(fault) => fault == no_world,
+    }
+}
+
+#[test]
+fn reads_no_saved_machine_as_a_script(rt: HostRuntime) {
+    assert!(rt; is_no_script(rt.alloc()));
 }
 
 /// The reply to a delivery that forced a check of round 3.
@@ -130,6 +170,21 @@ fn is_script_told(
 fn runs_a_byte_at_a_time(rt: HostRuntime) {
     let done = Ok(Done { refused: 0 });
     assert!(rt; is_script_told(rt.alloc(), 1, SOUND, done, THREE_CHECKS_TOLD.len(), (0, 0)));
+}
+
+/// Whether a script that begins with a saved machine is run so in steps of so many bytes.
+fn is_saved_told(alloc: Global, step: usize) -> bool
+    requires { 0 < step }
+{
+    let put = SAVED_MACHINE_TOLD.len();
+    let want = (Ok(Done { refused: 0 }), put, true, (0, 0));
+    is_told(alloc, SAVED_MACHINE, SAVED_MACHINE_TOLD, step, SOUND, want)
+}
+
+#[test]
+fn runs_a_saved_machine_in_pieces(rt: HostRuntime) {
+    assert!(rt; is_saved_told(rt.alloc(), 1));
+    assert!(rt; is_saved_told(rt.alloc(), 50));
 }
 
 /// Whether a run is told that its source failed at this call, and puts nothing.
