@@ -130,7 +130,9 @@ fn begin_world(beginning: &mut Beginning, row: &FieldRow<'_>) -> Result<(), Text
     }
 }
 
-// Takes the first record.
+// Takes the first record. It stands apart, and so does what ends a text: both move large values,
+// and a text has many records between them.
+#[inline(never)]
 fn begin(alloc: Global, beginning: &mut Beginning, row: &FieldRow<'_>) -> Result<(), TextError>
     requires { beginning.old ≡ Beginning.Nothing }
     ensures exact { Goes result (script_left (spec.taken_of beginning.old []))
@@ -182,6 +184,7 @@ fn machine_of(text: TakenText) -> TakenMachine
 }
 
 // Ends a text whose last record was taken.
+#[inline(never)]
 fn end_text(beginning: &mut Beginning)
     requires { spec.IsAtEnd beginning.old }
     ensures same { (records : List Record)
