@@ -4,6 +4,7 @@ ghost use Rattle.std.specs.Prelude.{◌≡◌, IfErr, IfOk, OnOk};
 ghost use Rattle.line_answers.specs.Answers as spec;
 ghost use Rattle.line_devices.specs.Devices.{one_more};
 ghost use Rattle.line_scripts.specs.Shown.{HasShortBodyInStep, command_of_ref};
+ghost use Rattle.line_steps.specs.Shown.{HasShortBody, step_of_ref};
 
 use crate::forgets::put_forgot;
 use crate::halts::Halt;
@@ -18,6 +19,7 @@ use line_fields::{Fault, RecordWriter};
 use line_live::Live;
 use line_names::ProcSet;
 use line_scripts::{Command, CommandRef};
+use line_steps::StepRef;
 use std::alloc::Global;
 
 // Writes the check text of the machine's history, damage and bars, with the plan for these failed
@@ -64,6 +66,81 @@ fn bundle<K: Sink>(
             Ok(true)
         }
     }
+}
+
+// Does a step, writes what it is told, and says whether it was refused.
+//
+// What comes of the step is lent to what writes it: it is a large value, and moving it takes as
+// long as some steps do.
+#[inline(always)]
+fn do_step<K: Sink>(
+    alloc: Global,
+    live: &mut Live,
+    sink: &mut K,
+    writer: &mut RecordWriter,
+    step: &StepRef<'_>,
+) -> Result<bool, Halt>
+    requires { HasShortBody step.now }
+    ensures ok { IfOk result
+        (λ refused. spec.DoesCommand live.old (Command.Do (step_of_ref step.now)) live.new
+        (K.taken sink.old)
+        (K.taken sink.new) writer.old writer.new refused) }
+    ensures memory { IfErr result
+        (λ halt. halt ≡ Halt.Memory
+        → (live.new ≡ live.old) × (sink.new ≡ sink.old) × (writer.new ≡ writer.old)) }
+    ensures write { IfErr result
+        (λ halt. halt ≡ Halt.Write
+        → spec.DoesFront live.old (Command.Do (step_of_ref step.now)) live.new
+        (K.taken sink.old)
+        (K.taken sink.new) writer.old) }
+    ensures sound { OnOk result (K.faults sink.new ≡ K.faults sink.old) }
+    ensures failed { IfErr result
+        (λ halt. halt ≡ Halt.Write → K.faults sink.new ≡ one_more (K.faults sink.old)) }
+{
+    let told = live.step_lent(alloc, step);
+    match &told {
+        Ok(reply) => {
+            put_reply(sink, writer, reply)?;
+            Ok(false)
+        }
+        Err(error) => {
+            if error.is_out_of_memory() {
+                return Err(Halt::Memory);
+            }
+            put_refusal(sink, writer, error.code())?;
+            Ok(true)
+        }
+    }
+}
+
+// Does a step as `do_step` does, where something was let go. It stands apart, so that a machine
+// that keeps all does not pay for replies that are brought back.
+#[inline(never)]
+fn do_kept_step<K: Sink>(
+    alloc: Global,
+    live: &mut Live,
+    sink: &mut K,
+    writer: &mut RecordWriter,
+    step: &StepRef<'_>,
+) -> Result<bool, Halt>
+    requires { HasShortBody step.now }
+    ensures ok { IfOk result
+        (λ refused. spec.DoesCommand live.old (Command.Do (step_of_ref step.now)) live.new
+        (K.taken sink.old)
+        (K.taken sink.new) writer.old writer.new refused) }
+    ensures memory { IfErr result
+        (λ halt. halt ≡ Halt.Memory
+        → (live.new ≡ live.old) × (sink.new ≡ sink.old) × (writer.new ≡ writer.old)) }
+    ensures write { IfErr result
+        (λ halt. halt ≡ Halt.Write
+        → spec.DoesFront live.old (Command.Do (step_of_ref step.now)) live.new
+        (K.taken sink.old)
+        (K.taken sink.new) writer.old) }
+    ensures sound { OnOk result (K.faults sink.new ≡ K.faults sink.old) }
+    ensures failed { IfErr result
+        (λ halt. halt ≡ Halt.Write → K.faults sink.new ≡ one_more (K.faults sink.old)) }
+{
+    do_step(alloc, live, sink, writer, step)
 }
 
 /// Does a command, writes what it is told after what a writer holds, and says whether it was
@@ -118,19 +195,12 @@ pub fn do_command<K: Sink>(
             Ok(false)
         }
         CommandRef::Bundle(failed) => bundle(alloc, live, sink, writer, failed),
-        CommandRef::Do(step) => match live.step_lent(alloc, step) {
-            Ok(reply) => {
-                put_reply(sink, writer, &reply)?;
-                Ok(false)
+        CommandRef::Do(step) => {
+            if !live.keeps_all() {
+                return do_kept_step(alloc, live, sink, writer, step);
             }
-            Err(error) => {
-                if error.is_out_of_memory() {
-                    return Err(Halt::Memory);
-                }
-                put_refusal(sink, writer, error.code())?;
-                Ok(true)
-            }
-        },
+            do_step(alloc, live, sink, writer, step)
+        }
         CommandRef::Plan(failed) => put_plan(alloc, live, sink, writer, failed),
         CommandRef::Live => put_live(alloc, live, sink, writer),
         CommandRef::Answer(failed) => put_whole_answer(alloc, live, sink, writer, failed),

@@ -12,6 +12,7 @@ ghost use Rattle.line_cuts.specs.Floors.{HasNumbers, LacksNumbers};
 ghost use Rattle.line_lives.specs.Lives.{cut_step, whole_plan};
 ghost use Rattle.line_live.specs.Forgets.{forget_refusal, idle_refusal};
 ghost use Rattle.line_live.specs.Lives.{floor_refusal, start_live, ForgetsLive, ForgetsRound};
+ghost use Rattle.line_live.specs.Lived.{LetsNothingGo};
 ghost use Rattle.line_live.specs.Lives.{IsLineKept, IsPlanOfKept, IsRoundKept};
 ghost use Rattle.line_live.specs.Lives.{LetsGo, RunLive, TakesLive};
 ghost use Rattle.line_live.specs.Resumed.{checks_in_round, resumed_machine, AreByNumber};
@@ -162,6 +163,15 @@ impl Live {
         ensures of_all { IsFloorOfAll (length self.now.kept.history) self.now.floor }
     {
         &self.floor
+    }
+
+    /// Whether nothing was let go, as a flag tells at once: it says no as soon as something was
+    /// forgotten, also where that was nothing.
+    #[inline(always)]
+    pub fn keeps_all(&self) -> bool
+        ensures { IsTrue result → LetsNothingGo self.now.floor }
+    {
+        !self.forgot
     }
 
     /// The latest line that the processes could go on from, if those of the set failed, as

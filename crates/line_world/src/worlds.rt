@@ -303,6 +303,7 @@ impl World {
     }
 
     /// Takes one step as `step` does, and at its cost. What the step carries is lent.
+    #[inline(always)]
     pub fn step_lent(&mut self, alloc: Global, step: &StepRef<'_>) -> Result<Reply, StepError>
         requires short { HasShortBody step.now }
         ensures done { IfOk result

@@ -73,45 +73,6 @@ returns-in-Bundle-clause-write g c = rw c.in-Bundle.is c.bundle.ensures.write
 pub put_rounds-requires-clause-checks : goal.put_rounds-requires-clause-checks
 put_rounds-requires-clause-checks g c = rw (c.rounds.ensures.value, c.n.ensures.value, c.history.ensures.value) (rounds_long _ _ c.rounds.ensures.snapshots)
 
-pub returns-in_ok-put_reply-in-Ok-clause-ok : goal.returns-in_ok-put_reply-in-Ok-clause-ok
-returns-in_ok-put_reply-in-Ok-clause-ok g c = rw c.in-Do.is (reply_does _ _ _ _ _ _ _ _ c.in-Ok.ensures.done c.in_ok-put_reply-in-Ok.ensures.ok)
-
-pub returns-in_err-put_reply-in-Ok-clause-memory : goal.returns-in_err-put_reply-in-Ok-clause-memory
-returns-in_err-put_reply-in-Ok-clause-memory g c =
-    let passed_on = err_from_is_err_and c.from_residual-in_err-put_reply-in-Ok.result c.from_residual-in_err-put_reply-in-Ok.ensures.1 in
-    rw (passed_on.1, passed_on.2) (λ same. absurd (other_halt same))
-
-pub returns-in_err-put_reply-in-Ok-clause-write : goal.returns-in_err-put_reply-in-Ok-clause-write
-returns-in_err-put_reply-in-Ok-clause-write g c =
-    let passed_on = err_from_is_err_and c.from_residual-in_err-put_reply-in-Ok.result c.from_residual-in_err-put_reply-in-Ok.ensures.1 in
-    rw passed_on.1 (λ same. rw c.in-Do.is (reply_front _ _ _ _ _ _ _ c.in-Ok.ensures.done c.in_err-put_reply-in-Ok.ensures.err))
-
-pub returns-in_err-put_reply-in-Ok-clause-failed : goal.returns-in_err-put_reply-in-Ok-clause-failed
-returns-in_err-put_reply-in-Ok-clause-failed g c =
-    let passed_on = err_from_is_err_and c.from_residual-in_err-put_reply-in-Ok.result c.from_residual-in_err-put_reply-in-Ok.ensures.1 in
-    rw passed_on.1 (λ same. c.in_err-put_reply-in-Ok.ensures.failed)
-
-pub returns-in_ok-put_refusal-in-Err-clause-ok : goal.returns-in_ok-put_refusal-in-Err-clause-ok
-returns-in_ok-put_refusal-in-Err-clause-ok g c =
-    let differs : c.in-Err.error ≢ errors.OutOfMemory = search rules in
-    rw c.in-Do.is (refusal_does _ _ _ _ _ _ _ _ _ (c.in-Err.ensures.refused differs) c.code.ensures c.in_ok-put_refusal-in-Err.ensures.ok)
-
-pub returns-in_err-put_refusal-in-Err-clause-memory : goal.returns-in_err-put_refusal-in-Err-clause-memory
-returns-in_err-put_refusal-in-Err-clause-memory g c =
-    let passed_on = err_from_is_err_and c.from_residual-in_err-put_refusal-in-Err.result c.from_residual-in_err-put_refusal-in-Err.ensures.1 in
-    rw (passed_on.1, passed_on.2) (λ same. absurd (other_halt same))
-
-pub returns-in_err-put_refusal-in-Err-clause-write : goal.returns-in_err-put_refusal-in-Err-clause-write
-returns-in_err-put_refusal-in-Err-clause-write g c =
-    let passed_on = err_from_is_err_and c.from_residual-in_err-put_refusal-in-Err.result c.from_residual-in_err-put_refusal-in-Err.ensures.1 in
-    let differs : c.in-Err.error ≢ errors.OutOfMemory = search rules in
-    rw passed_on.1 (λ same. rw c.in-Do.is (refusal_front _ _ _ _ _ _ _ _ (c.in-Err.ensures.refused differs) c.code.ensures c.in_err-put_refusal-in-Err.ensures.err))
-
-pub returns-in_err-put_refusal-in-Err-clause-failed : goal.returns-in_err-put_refusal-in-Err-clause-failed
-returns-in_err-put_refusal-in-Err-clause-failed g c =
-    let passed_on = err_from_is_err_and c.from_residual-in_err-put_refusal-in-Err.result c.from_residual-in_err-put_refusal-in-Err.ensures.1 in
-    rw passed_on.1 (λ same. c.in_err-put_refusal-in-Err.ensures.failed)
-
 pub returns-in-Plan-clause-ok : goal.returns-in-Plan-clause-ok
 returns-in-Plan-clause-ok g c = rw c.in-Plan.is c.put_plan.ensures.ok
 
