@@ -13,7 +13,7 @@ from conversations import READ_FAULT, WRITE_FAULT, Conversation, Difference, sam
 from preloaded import TOP
 from service_jobs import Job
 from slow_model.made_conversations import answers_to, good_records, padded
-from slow_model.service import MOST_LINE
+from slow_model.texts import MOST_LINE
 
 MIB = 1 << 20
 # What a service may take above what it had when it answered its first record.

@@ -5,8 +5,8 @@ import mmap
 import os
 from collections.abc import Iterator
 
-from .service import LINE, MOST_LINE, Service
-from .texts import Fault, Records
+from .service import Service
+from .texts import LINE, MOST_LINE, Fault, Records
 
 NO_MEMORY = b"fault,0,OutOfMemory\n\n"
 EVENTS = ("check", "send", "deliver", "recv")

@@ -6,7 +6,8 @@ from random import Random
 from .made_saves import some_saved_script
 from .made_scripts import some_script
 from .made_texts import one_in, with_other_bytes
-from .service import MOST_LINE, Service
+from .service import Service
+from .texts import MOST_LINE
 
 # Bytes that no text has, and some of which look as if they ended a line.
 BAD_BYTES = [b"\x00", b'"', b"\r", b"\t", b"\x0b", b"\x0c", b"\x1a", b"\x7f", b"\x80", b"\xff"]

@@ -7,7 +7,7 @@ from .machine import World
 from .saved import Saved, begin
 from .texts import (
     NAMES, Answer, Fault, Records, Refusal, fields_of, first_record, hexadecimal, number, numbered,
-    place, records_of, round_number, told, want, written,
+    place, records_by_lines, records_of, round_number, told, want, written,
 )
 
 # A command by its name, and its values.
@@ -77,8 +77,8 @@ def commands_of(records: Iterator[tuple[int, list[str]]]) -> list[Command]:
 
 
 def read_saved_text(text: bytes) -> World:
-    """The machine that a saved text spells, which has nothing after it."""
-    records = list(enumerate(records_of(text), 1))
+    """The machine that the lines of a saved text spell, which has nothing after it."""
+    records = list(enumerate(records_by_lines(text), 1))
     saved = numbered(1, begin, records[0][1])
     rest = iter(records[1:])
     last = read_saved(saved, rest, len(records))

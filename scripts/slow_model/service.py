@@ -1,15 +1,11 @@
 """The service: `recline serve`, which answers each record of a script as it comes."""
 
-import re
 from collections.abc import Iterator
 
 from .machine import World
 from .saved import Saved
 from .scripts import answer, begun_by, command_of
-from .texts import NAMES, Fault, Records, want, written
-
-MOST_LINE = 65_536  # bytes of a line without its line feed; a carriage return is one of them
-LINE = re.compile(rb"[ !#-~]*")  # blanks to tildes but the double quote
+from .texts import LINE, MOST_LINE, NAMES, Fault, Records, want, written
 
 
 class Service:

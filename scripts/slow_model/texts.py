@@ -30,6 +30,9 @@ Answer = tuple[bytes, bytes, int]
 Value = TypeVar("Value")
 # Blanks to tildes but the double quote; a carriage return only before a line feed.
 TEXT = re.compile(rb"([ !#-~\n]|\r\n)*")
+LINE = re.compile(rb"[ !#-~]*")
+# Bytes of a line that comes by itself, without its line feed; a carriage return is one of them.
+MOST_LINE = 65_536
 
 
 class Fault(Exception):
@@ -76,6 +79,19 @@ def records_of(text: bytes) -> list[list[str]]:
         raise Fault(32, 0)
     lines = text.decode("ascii").replace("\r\n", "\n").split("\n")
     records = [line.split(",") for line in lines if line]
+    if not records:
+        raise Fault(34, 1)
+    return records
+
+
+def records_by_lines(text: bytes) -> list[list[str]]:
+    """The fields of each line that has some; a line that is no record has an empty one alone."""
+    *ended, last = text.split(b"\n")
+    records = []
+    for line, bare in [*((it, it.removesuffix(b"\r")) for it in ended), (last, last)]:
+        is_record = len(line) <= MOST_LINE and LINE.fullmatch(bare)
+        if bare:
+            records.append(bare.decode("ascii").split(",") if is_record else [""])
     if not records:
         raise Fault(34, 1)
     return records

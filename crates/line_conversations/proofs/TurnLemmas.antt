@@ -13,7 +13,7 @@ use Rattle.line_conversations.specs.Lines.{Pending, Kept, last_record, pending_a
 use Rattle.line_conversations.specs.Conversations.{Serves, Standing, first_standing, records_ending_in}
 use Rattle.line_conversations.specs.Answers.{PutsAnswersFront}
 use Rattle.line_conversations.specs.Rules.{Rules, HearsAll, answers_text, worst}
-use Rattle.line_conversations.specs.Turns.{AnswersFrontOf, AnswersLines, AnswersText, AnswersUntilFailure, BreaksOff, BreaksTurn, LosesBytes, PutsAnswers, PutsLast, TakesTurn}
+use Rattle.line_conversations.specs.Turns.{AnswersFrontOf, AnswersLines, AnswersText, AnswersUntilFailure, BreaksOff, BreaksTurn, HearsOut, LosesBytes, PutsAnswers, PutsLast, TakesTurn}
 use Rattle.line_conversations.proofs.HeardLemmas.{HearsAll-both, answers_text-append, front_after, worst-append}
 use Rattle.line_conversations.proofs.PieceLemmas.{of_pieces}
 use Rattle.line_conversations.proofs.LineLemmas.{pending_nil, records_both, records_nil}
@@ -159,6 +159,18 @@ module _ {S A : Type 0} (rules : Rules S A) where
           put =
               subst (λ (t : List ℕ). Puts taken now t) (sym (answers_text-append rules h.answers k.answers))
               (puts_both taken between now (answers_text rules h.answers) (answers_text rules k.answers) h.put k.put);
+        }
+
+    pub heard_out : (mid new : Standing S) (left later : Option (List ℕ)) (given counted : ℕ) (taken between now : Option (List ℕ)) → AnswersLines rules first mid left later given counted taken between → PutsLast rules mid new between now
+        → HearsOut rules first new.state left later given counted
+    heard_out mid new left later given counted taken between now h k =
+        let last : HearsAll rules mid.state (last_record (pending_after (Kept []) h.text)) k.answers new.state =
+        subst (λ (p : Pending). HearsAll rules mid.state (last_record p) k.answers new.state) h.answered.serves.pending k.ends.heard in
+        record {
+          text = h.text;
+          gives = h.gives;
+          answers = h.answered.answers ++ k.answers;
+          serves = HearsAll-both rules first mid.state new.state (records_ending_in (Kept []) h.text) (last_record (pending_after (Kept []) h.text)) h.answered.answers k.answers h.answered.serves.heard last;
         }
 
     pub breaks_at_end : (mid : Standing S) (left later : Option (List ℕ)) (given counted : ℕ) (taken between now : Option (List ℕ)) → AnswersLines rules first mid left later given counted taken between

@@ -65,6 +65,14 @@ module _ {S A : Type 0} (rules : Rules S A) where
     pub worst_of : outcome ≡ worst rules outcomes.Done answers
     pub put : Puts taken now (answers_text rules answers)
 
+  -- a source gave a text to its end, which was answered, and left that state
+  pub record HearsOut (first new : S) (left later : Option (List ℕ)) (given counted : ℕ)
+      : Type 0 where
+    pub text : List ℕ
+    pub gives : GivesText text left later given counted
+    pub answers : List A
+    pub serves : ServesText rules first text answers new
+
   -- a source gave some bytes, or none where nothing is left, which were answered, and the text of
   -- the answers was put
   pub record TakesTurn (old new : Standing S) (left later : Option (List ℕ)) (given counted : ℕ)

@@ -106,6 +106,15 @@ impl<C: Answerer> Conversation<C> {
         }
     }
 
+    /// Whoever answers, as the records so far left it.
+    pub fn into_answerer(self) -> C
+        ensures { result ≡ self.state }
+    {
+        let Conversation { seat, .. } = self;
+        let Seat { answerer, .. } = seat;
+        answerer
+    }
+
     /// What came of the records so far.
     pub fn outcome(&self) -> Outcome
         ensures { result ≡ self.now.outcome }

@@ -20,4 +20,4 @@ pub use faults::ServeError;
 pub use limits::MOST_LINE;
 pub use outcomes::Outcome;
 pub use stops::Stop;
-pub use turns::{converse, take_turn};
+pub use turns::{converse, hear_out, take_turn};

@@ -123,6 +123,9 @@ fn serve_all<C: Answerer, S: Source, K: Sink>(
         (S.given source.new)
         × spec.AnswersText C.rules conversation.old.state text outcome (K.taken sink.old) (K.taken
         sink.new)) }
+    ensures state { OnOk result (spec.HearsOut C.rules conversation.old.state
+        conversation.new.state (S.left source.old) (S.left source.new) (S.given source.old)
+        (S.given source.new)) }
     ensures read { result ≡ Err errors.Read → spec.AnswersUntilFailure C.rules
         conversation.old.state (S.left source.old)
         (S.left source.new) (S.given source.old) (S.given source.new) (K.taken sink.old)
@@ -205,4 +208,43 @@ pub fn converse<C: Answerer, S: Source, K: Sink>(
         return Err(ServeError::OutOfMemory);
     };
     serve_all(&mut conversation, &mut room, source, sink)
+}
+
+/// Reads records from a source to its end, as `converse` does, and gives whoever answered them
+/// back.
+pub fn hear_out<C: Answerer, S: Source, K: Sink>(
+    alloc: Global,
+    answerer: C,
+    source: &mut S,
+    sink: &mut K,
+) -> Result<C, ServeError>
+    // What the source gave, to its end, was answered, and left this.
+    ensures done { IfOk result (λ heard. spec.HearsOut C.rules answerer heard (S.left source.old)
+        (S.left source.new) (S.given source.old) (S.given source.new)) }
+
+    // Where memory is out, nothing begins.
+    ensures memory { result ≡ Err errors.OutOfMemory → (source.new ≡ source.old)
+        × (sink.new ≡ sink.old) }
+
+    // No failure is passed over, and a device that is sound is not blamed.
+    ensures cause { result ≡ Err errors.Read
+        → (S.faults source.new ≡ one_more (S.faults source.old))
+        ⊎ (S.given source.old + (2 ^ 64 - 1) ≤ S.given source.new) }
+    ensures heard { OnOk result (S.faults source.new ≡ S.faults source.old) }
+    ensures sound { OnOk result (K.faults sink.new ≡ K.faults sink.old) }
+    ensures kept { result ≡ Err errors.Read → K.faults sink.new ≡ K.faults sink.old }
+    ensures blamed { result ≡ Err errors.Write → (S.faults source.new ≡ S.faults source.old)
+        × (K.faults sink.new ≡ one_more (K.faults sink.old)) }
+    ensures ended { OnOk result (S.ends source.new ≡ one_more (S.ends source.old)) }
+{
+    let Ok(mut room) = vec![in alloc; 0u8; CHUNK] else {
+        return Err(ServeError::OutOfMemory);
+    };
+    let Ok(mut conversation) = Conversation::new(alloc, answerer) else {
+        return Err(ServeError::OutOfMemory);
+    };
+    match serve_all(&mut conversation, &mut room, source, sink) {
+        Ok(_) => Ok(conversation.into_answerer()),
+        Err(error) => Err(error),
+    }
 }

@@ -1,6 +1,6 @@
 -- What a command was told, as the answer to its record.
 use Rattle.std.proofs.Common.{◌≡◌, ℕ, Bool, cond, List, [], ◌∷◌, ◌++◌, append_assoc, length, refl, ap, ◌∙◌, subst}
-use Rattle.std.specs.Prelude.{Option, Result, Ok}
+use Rattle.std.specs.Prelude.{Option, Ok}
 use Rattle.line_answers.specs.Answers.{DoesCommand, DoesFront, command_answer_records}
 use Rattle.line_conversations.specs.declared.outcomes.Outcome.{Outcome}
 use Rattle.line_conversations.specs.declared.outcomes.Outcome.TheVariants as outcomes

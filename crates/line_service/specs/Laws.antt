@@ -1,6 +1,6 @@
 -- What a service may answer to what is no record, and where memory is out. No contract that a
 -- caller reads needs this.
-use Rattle.std.specs.Prelude.{◌≡◌, Err, Result, refl}
+use Rattle.std.specs.Prelude.{Err, Result, refl}
 use Rattle.line_fields.specs.declared.faults.Fault.{Fault}
 use Rattle.line_fields.specs.declared.faults.Fault.TheVariants.{BadRecord}
 use Rattle.line_fields.specs.declared.faults.ReadError.TheVariants as errors

@@ -1,3 +1,4 @@
+pub mod FileLaws
 pub mod Files
 pub mod Laws
 pub mod Served

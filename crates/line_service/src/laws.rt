@@ -1,22 +1,25 @@
 //! Laws of the definitions, each the contract of a function that does nothing.
 
 ghost use Rattle.std.specs.Prelude.{◌≡◌, ◌≢◌, ◌↔◌, ◌++◌, ◌∷◌, ℕ, List, [], Ok, Result};
-ghost use Rattle.std.specs.Prelude.{map};
+ghost use Rattle.std.specs.Prelude.{map, true};
 ghost use Rattle.std.specs.List.{flat_map};
 ghost use Rattle.line_answers.specs.Answers.{CommandAnswer, text_of};
 ghost use Rattle.line_claims.specs.declared.faults.TextError.{TextError};
 ghost use Rattle.line_claims.specs.Parts.{Part};
 ghost use Rattle.line_answers.specs.Openings.{opened};
-ghost use Rattle.line_claims.specs.Saved.{SavedParts, saved_of};
+ghost use Rattle.line_claims.specs.Saved.{SavedParts, saved_of, saved_of_text};
 ghost use Rattle.line_conversations.specs.declared.outcomes.Outcome.TheVariants as outcomes;
-ghost use Rattle.line_conversations.specs.Conversations.{Serves, ServesBoth, ServesText, Standing};
+ghost use Rattle.line_conversations.specs.Conversations.{records_of, Serves, ServesBoth};
+ghost use Rattle.line_conversations.specs.Conversations.{ServesText, Standing};
 ghost use Rattle.line_conversations.specs.Lines.{HasShortLines};
 ghost use Rattle.line_conversations.specs.Rules.{HearsAll, worst};
 ghost use Rattle.line_fields.specs.declared.faults.Fault.{Fault};
 ghost use Rattle.line_fields.specs.declared.faults.ReadError.{ReadError};
+ghost use Rattle.line_fields.specs.Bytes.{is_input_text};
 ghost use Rattle.line_fields.specs.Records.{Record};
 ghost use Rattle.line_fields.specs.Texts.{records_text};
 ghost use Rattle.line_scripts.specs.Scripts.{Script, script_of_text};
+ghost use Rattle.line_service.specs.Files.{saved_of_lines};
 ghost use Rattle.line_service.specs.Services.{Began, Dropped, Empty, Faulted, Has, Hears};
 ghost use Rattle.line_service.specs.Services.{IsRunOf, Replied};
 ghost use Rattle.line_service.specs.Services.{ServiceAnswer, ServiceState, service_answer_records};
@@ -69,4 +72,11 @@ pub fn saved_machines_are_served()
         → HearsAll service_rules Empty (map Ok records) answers new
         → worst service_rules outcomes.Done answers ≢ outcomes.Faulted
         → new ≡ Has (opened saved.value) }
+{}
+
+/// A text of a saved machine that has no byte that no text has, and no line that is too long, is
+/// read line by line as it is read as a whole: it spells the same machine, or has the same fault.
+pub fn saved_texts_are_read_by_lines()
+    ensures { (text : List ℕ) → is_input_text text ≡ true → HasShortLines text
+        → saved_of_lines (records_of text) ≡ saved_of_text text }
 {}
