@@ -85,6 +85,13 @@ class SpoilsPieces(Service):
         yield from super().answers(piece if is_good else piece.replace(b",", b"\x00"))
 
 
+class KeepsSavedTexts(Service):
+    """A fault drops nothing of the text of a saved machine."""
+
+    def miss(self) -> None:
+        """Keeps what was read."""
+
+
 class BeginsAnew(Service):
     """A later world, or a later `reports`, takes the place of the first one."""
 
@@ -181,6 +188,7 @@ class Starved(Service):
         return self.late(answer) if self.is_refused() else answer
 
     def refused(self, line: bytes, may_end: bytes) -> bytes:
+        self.miss()
         self.status = 2
         return NO_MEMORY
 
