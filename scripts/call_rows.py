@@ -56,9 +56,10 @@ CALLS = {
     "flags": (26, ""),
     "counts": (27, ""),
     "copy_state": (28, "x"),
+    "resume": (29, ""),
 }
 # The calls that are no steps: a run has them not.
-NO_STEPS = ("plan", "forget", "forget_live")
+NO_STEPS = ("plan", "forget", "forget_live", "resume")
 # How many bits each of the four numbers has, and where they lie in a word.
 ROOM = {"a": (8, 48), "b": (8, 40), "c": (20, 20), "d": (20, 0)}
 MOST_PROCESSES = 8
@@ -219,6 +220,12 @@ ROWS = [
         " / deliver,2,0,0, / send,0,2,7a / forget,1 / plan,1 / recover,1,2 / deliver,0,2,0,"
         " / begin,2,c2 / deliver,2,0,0,a2 / deliver,2,1,0,b2 / deliver,0,1,0, / deliver,0,2,0,"
         " / deliver,1,0,0, / deliver,1,2,0, / forget,2 / send,0,2,80 / forget_live / recover,0,2"),
+    row("a machine is opened of what is saved", "live", 2, FIFO,
+        f"resume / {ROUNDS} / deliver,0,1,0, / resume / damage,1,2 / bar,1,3 / resume / forget,1"
+        " / forget,2 / resume / plan,0 / send,1,0,64 / send,0,1,65 / resume / recover,0"
+        " / deliver,1,0,0, / deliver,0,1,0, / resume / forget_live / resume / plan"),
+    row("refusals to open", "live", 2, FIFO,
+        "begin,0,a1 / resume / deliver,0,1,0,b1 / resume / deliver,1,0,0, / resume"),
     fleet("a fleet from its opening to the next generation", 2, 4,
         "check,0,01 / report,0 / take,9 / live / send,0,1,61 / receive,1,0, / check,1,02"
         " / gather,0 / plan / restart / send,0,1,62 / receive,1,0, / report,0 / report,1"
