@@ -18,7 +18,8 @@ from collections.abc import Callable
 from hubs import CLIENT, ENVIRONMENT, SECONDS, HubTest, collect, freeze
 
 from recline_report import (
-    AsyncReporter, Hub, HubError, MessageName, NoteRefused, Reporter, TakenAsFailed, WentBack,
+    AsyncReporter, Floor, Hub, HubError, MessageName, NoteRefused, Reporter, TakenAsFailed,
+    WentBack,
 )
 
 LIFE = "0" * 32
@@ -143,6 +144,81 @@ class TestKeeping(HubTest):
         self.assertEqual(len(self.lines()), 7)
 
 
+class TestForget(HubTest):
+    """What no recovery needs any more is let go."""
+
+    def work(self, turns: int) -> None:
+        """Two processes send to each other and take checks; all but the last message comes."""
+        for _ in range(turns):
+            self.one.received(self.zero.send(1, b"a"))
+            self.zero.received(self.one.send(0, b"b"))
+            self.zero.check(b"zero")
+            self.one.check(b"one")
+        self.last = self.zero.send(1, b"last")
+        self.zero.flush()
+        self.one.flush()
+
+    def begin(self, *words: str) -> None:
+        """A hub, and the two processes."""
+        self.start(2, *words)
+        self.zero, self.one = self.reporter(0, 2), self.reporter(1, 2)
+
+    def test_names_stay(self) -> None:
+        """Names, numbers and recoveries are as if nothing had been let go."""
+        self.begin()
+        self.assertEqual(self.hub.forget(), (Floor(0, 0), Floor(0, 0)))
+        self.work(3)
+        self.assertEqual(self.hub.forget(), (Floor(3, 3), Floor(3, 3)))
+        told = self.ask("forget", "--hub", self.address).stdout
+        self.assertIn("process 1 begins with its check 3; 3 messages let go", told)
+        told = self.ask("forget", "--hub", self.address, "--json").stdout
+        self.assertEqual(json.loads(told)["floors"], [{"check": 3, "sends": 3}] * 2)
+        self.assertEqual(self.last, MessageName(0, 0, 3))
+        self.assertEqual(self.hub.plan([1]).replays, (self.last,))
+        self.assertEqual(self.hub.live().line, (3, 3))
+        self.assertEqual(self.zero.check(), 4)
+        self.zero.flush()
+        plan = self.hub.recover([1], SECONDS)
+        self.assertEqual((plan.line, plan.replays), ((None, 3), (self.last,)))
+        stays = self.zero.wait_recovery(SECONDS)
+        assert stays
+        self.assertEqual([(it.name, it.to, it.body) for it in stays.resend],
+                         [(self.last, 1, b"last")])
+        self.assertEqual((stays.sends, stays.checks, stays.sent), (4, 4, (4, 3)))
+        again = self.reporter(1, 2)
+        self.assertEqual((again.start.choice, again.start.state), (3, b"one"))
+        self.assertFalse(again.received(MessageName(0, 0, 2)))
+        self.assertTrue(again.received(self.last))
+        self.assertEqual(again.send(0), MessageName(1, 2, 3))
+        self.assertEqual(again.check(), 4)
+        again.flush()
+
+    def test_killed_hub_and_service(self) -> None:
+        """Who is started again lets go the same, and goes on."""
+        self.begin()
+        self.work(5)
+        self.hub.forget()
+        os.kill(self.hub.status()["service"]["pid"], signal.SIGKILL)
+        self.work(2)
+        self.assertEqual(self.hub.forget(), (Floor(7, 5), Floor(7, 7)))
+        self.stop()
+        self.start(2)
+        self.assertEqual(self.hub.live().line, (7, 7))
+        self.work(1)
+        self.assertEqual(self.lines().count("forget"), 2)
+        answers = collect("\n".join(self.lines()) + "\n").split("\n\n")
+        self.assertFalse([it for it in answers if it.startswith(("refused", "fault"))])
+
+    def test_after_so_many_notes(self) -> None:
+        """The hub itself lets go after so many notes."""
+        self.begin("--forget-every", "20")
+        for _ in range(12):
+            self.work(2)
+        self.assertGreater(self.lines().count("forget"), 2)
+        words = ["--processes", "2", "--journal", self.journal, "--listen", self.address]
+        self.assertEqual(self.ask(*words, "--forget-every", "0").returncode, 2)
+
+
 class TestPeers(HubTest):
     """Who is refused, and the others go on."""
 
@@ -179,6 +255,7 @@ class TestPeers(HubTest):
             (hello + b"notes,0,100\ncheck,2,0,,-\n", None),
             (b"ask,aa,-,quit\n", "a hub is asked for"), (b"ask,aa,-,recover,x\n", "are numbers"),
             (b"ask,aa,-,plan,7\n", "there is no process 7"),
+            (b"ask,aa,-,forget,1\n", "a hub is asked for"),
             (hello + b"notes,5,13\ncheck,2,0,,-\n", "process 2 counts as failed"),
         ):
             with self.subTest(sent[:60]):

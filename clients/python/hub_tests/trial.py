@@ -52,6 +52,7 @@ class Trial:
         self.command = shlex.split(asked.collect)
         self.folder, self.journal = folder, f"{folder}/journal"
         self.options = [it for it in ("--auto", "--durable") if self.chance.random() < 0.4]
+        self.options += ["--forget-every", "25"] if self.chance.random() < 0.5 else []
         self.is_automatic = "--auto" in self.options
         self.address = self.listens_at()
         self.environment = {**os.environ, "PYTHONPATH": str(HERE.parent),
@@ -115,6 +116,11 @@ class Trial:
             with contextlib.suppress(ProcessLookupError):
                 os.kill(pid, 9)
 
+    def forget(self) -> None:
+        """Has the hub let go what no recovery needs."""
+        with contextlib.suppress(HubError, OSError):
+            self.hub.forget()
+
     def do_something(self) -> str:
         """Does one of these."""
         kinds = self.kinds()
@@ -125,7 +131,7 @@ class Trial:
     def kinds(self) -> dict[str, Callable[[], None]]:
         """What can be done, by its name."""
         return {"rank": self.kill_ranks, "hub": self.kill_hub, "service": self.kill_service,
-                "connections": self.cutter.cut}
+                "connections": self.cutter.cut, "forget": self.forget}
 
     def status(self) -> dict[str, Any]:
         """What the hub says of itself, where there is one."""
@@ -193,17 +199,18 @@ class Trial:
                 self.hub.recover(lost, 20)
 
     def test_journal(self, bodies: list[list[bytes]]) -> None:
-        """The journal has each note once, and nothing in it is refused."""
+        """The journal has each note once, and nothing in it is refused.
+
+        The plans are those of a journal in which nothing is let go.
+        """
         text = pathlib.Path(self.journal).read_bytes()
         if not text.startswith(first_line(self.ranks).encode() + b"\n"):
             raise Failure("the journal does not begin as it must")
-        ran = subprocess.run(
-            self.command, input=text + b"history\n", stdout=subprocess.PIPE, check=False
-        )
-        *answers, history, _ = ran.stdout.decode().split("\n\n")
-        bad = [answer for answer in answers if answer.startswith(("refused", "fault"))]
-        if bad or ran.returncode:
-            raise Failure(f"the journal's answers have {bad[:3]}, status {ran.returncode}")
+        notes = [line for line in text.splitlines(True) if line != b"forget\n"]
+        *_, plan, _ = self.answers(text)
+        *_, plan_of_all, history = self.answers(b"".join(notes))
+        if plan != plan_of_all:
+            raise Failure(f"the plan is {plan}, and {plan_of_all} where nothing is let go")
         tapes = [tape.split("\n") for tape in history.split("\ntape,")[1:]]
         sends = [[it.split(",")[1:] for it in tape if it.startswith("send,")] for tape in tapes]
         for rank, tape in enumerate(tapes):
@@ -216,6 +223,16 @@ class Trial:
             names = [[str(it), sends[it][turn][1], str(turn)] for turn, it in enumerate(senders)]
             if received != names:
                 raise Failure(f"rank {rank} has other receipts")
+
+    def answers(self, text: bytes) -> list[str]:
+        """The answers to a journal, a plan and the history among them, none of which refuses."""
+        text += b"plan,0\nhistory\n"
+        ran = subprocess.run(self.command, input=text, stdout=subprocess.PIPE, check=False)
+        *answers, _ = ran.stdout.decode().split("\n\n")
+        bad = [answer for answer in answers if answer.startswith(("refused", "fault"))]
+        if bad or ran.returncode:
+            raise Failure(f"the journal's answers have {bad[:3]}, status {ran.returncode}")
+        return answers
 
     def end(self, life: subprocess.Popen[bytes]) -> None:
         """Waits for a process that was killed."""
@@ -259,9 +276,10 @@ def run_all(asked: argparse.Namespace, kind: type[Trial]) -> int:
             return 1
         finally:
             trial.close()
-        recoveries = pathlib.Path(trial.journal).read_text().count("\nrecover")
+        text = pathlib.Path(trial.journal).read_text()
+        recoveries, forgets = text.count("\nrecover"), text.count("\nforget")
         print(f"run {run}: the same bits after {', '.join(trial.done)}; {recoveries} recoveries, "
-              f"{time.monotonic() - start:.1f} s", flush=True)
+              f"{forgets} times let go, {time.monotonic() - start:.1f} s", flush=True)
         shutil.rmtree(folder)
     return 0
 

@@ -6,11 +6,12 @@
     python3 -m recline_hub status --hub unix:PATH
     python3 -m recline_hub plan --failed 2 --hub unix:PATH
     python3 -m recline_hub live --hub unix:PATH
+    python3 -m recline_hub forget --hub unix:PATH
 
 `recover` holds all processes that have not failed, plans where each goes on, and tells them. `plan`
-says where each would go on, and `live` before which checks nothing is needed any more. With
-`--json` answers are objects of JSON. Statuses: 0; 1 where the hub said no; 2 for a wrong command
-line; 3 where a file or a connection failed; 130 after an interrupt.
+says where each would go on, and `live` before which checks nothing is needed any more; `forget` has
+the hub itself let that go. With `--json` answers are objects of JSON. Statuses: 0; 1 where the hub
+said no; 2 for a wrong command line; 3 where a file or a connection failed; 130 after an interrupt.
 """
 
 import argparse
@@ -31,7 +32,7 @@ from .hub import LIMIT, Hub
 from .journals import JournalError
 from .words import words_of
 
-ASKED = ("recover", "status", "plan", "live")
+ASKED = ("recover", "status", "plan", "live", "forget")
 LOOPBACK = ("127.0.0.1", "::1", "localhost")
 
 
@@ -61,6 +62,10 @@ def parser() -> argparse.ArgumentParser:
     )
     words.add_argument("--durable", action="store_true", help="sync notes before they are kept")
     words.add_argument(
+        "--forget-every", type=int, metavar="NOTES",
+        help="after so many notes let go what no recovery needs",
+    )
+    words.add_argument(
         "--beyond-loopback", action="store_true", help="take connections of other hosts"
     )
     words.add_argument("--json", action="store_true", help="answer in JSON")
@@ -72,6 +77,7 @@ async def run(asked: argparse.Namespace, address: wire.Address, token: bytes | N
     hub = Hub(
         asked.processes, asked.journal, shlex.split(asked.collect), token=token,
         within=asked.within, is_automatic=asked.auto, is_durable=asked.durable,
+        forget_every=asked.forget_every,
     )
     if address.path:
         server = await asyncio.start_unix_server(
@@ -120,6 +126,8 @@ def serve(asked: argparse.Namespace, words: argparse.ArgumentParser) -> int:
         words.error("a hub needs --processes and --journal")
     if not 1 <= asked.processes <= wire.MOST_PROCESSES:
         words.error("there may be 1 to 256 processes")
+    if asked.forget_every is not None and asked.forget_every < 1:
+        words.error("--forget-every is at least 1 note")
     try:
         address = wire.address_of(asked.listen)
     except ValueError as error:
@@ -148,6 +156,8 @@ def answer(asked: argparse.Namespace, words: argparse.ArgumentParser) -> int:
             said = hub.status()
         elif asked.ask == "recover":
             said = as_json(hub.recover(asked.failed, asked.within))
+        elif asked.ask == "forget":
+            said = {"floors": [floor._asdict() for floor in hub.forget()]}
         else:
             said = as_json(hub.live() if asked.ask == "live" else hub.plan(asked.failed))
     except (HubError, ValueError) as error:

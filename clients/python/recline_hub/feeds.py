@@ -17,6 +17,7 @@ FIRST_PAUSE, LAST_PAUSE = 0.05, 2.0  # seconds before a service is started again
 SECONDS = 2.0  # for a service to end by itself
 END = b"\n\n"  # of each answer
 STALE_REPORT = b"47"
+FORGOT = b"forgot,"  # begins the answer to a `forget`
 
 
 class Notes:
@@ -63,6 +64,7 @@ class Feed:
         self.answered = 0  # bytes of the journal
         self.starts = 0
         self.pid: int | None = None
+        self.floors = b""  # what was let go so far, as the last answer to a `forget` says
         self._reset()
 
     def _reset(self) -> None:
@@ -220,6 +222,8 @@ class Feed:
             end = len(rest) - len(rest.split(END, count)[count])
         answers = bytes(rest[:end])
         del rest[:end]
+        if FORGOT in answers:
+            self.floors = answers[answers.rindex(FORGOT):].split(END, 1)[0]
         if b"refused," in answers or b"fault," in answers:
             self._tell_refused(head, answers)
         head.left -= count

@@ -27,15 +27,16 @@ class Hub:
 
     `token` is what who connects over TCP has to have. `is_automatic`: a process that was started
     again is recovered without being asked for. `is_durable`: what is acknowledged survives a loss
-    of power.
+    of power. `forget_every`: after so many notes the service lets go what no recovery needs.
     """
 
     def __init__(
         self, processes: int, journal: str, command: Sequence[str], *, token: bytes | None = None,
         within: float = 10.0, is_automatic: bool = False, is_durable: bool = False,
+        forget_every: int | None = None,
     ) -> None:
         self._token, self._is_automatic, self._is_durable = token, is_automatic, is_durable
-        self._roster = Roster(processes, journal, command, within, is_durable)
+        self._roster = Roster(processes, journal, command, within, is_durable, forget_every)
         self._connections = 0
 
     async def run(self) -> None:
@@ -214,6 +215,7 @@ class Hub:
             if self._is_durable:
                 loop = asyncio.get_running_loop()
                 await loop.run_in_executor(None, self._roster.journal.sync)
+            self._roster.count(count - known)
         connection.put(b"kept,%d\n" % member.kept)
         await asyncio.sleep(0)  # so that others have their turn
 
@@ -246,7 +248,9 @@ class Hub:
             if not text.startswith("planned,"):
                 raise Refusal(text)
             return {"text": text}
-        raise Refusal("a hub is asked for `status`, `plan`, `live` or `recover`")
+        if kind == "forget" and not numbers:
+            return {"text": (await self._roster.forget()).decode("ascii")}
+        raise Refusal("a hub is asked for `status`, `plan`, `live`, `recover` or `forget`")
 
     def _test(self, failed: Sequence[int]) -> None:
         """Raises where there is no such process."""

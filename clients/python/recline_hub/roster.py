@@ -22,12 +22,15 @@ class Roster:
     """The processes of a computation, their journal, and the service that is fed it.
 
     `within`: the seconds in which a process holds where a recovery was not asked for by words.
+    `forget_every`: after how many notes the service is told to let go what no recovery needs.
     """
 
     def __init__(
-        self, processes: int, journal: str, command: Sequence[str], within: float, is_durable: bool
+        self, processes: int, journal: str, command: Sequence[str], within: float, is_durable: bool,
+        forget_every: int | None,
     ) -> None:
         self._within, self._is_durable = within, is_durable
+        self._forget_every, self._since = forget_every, 0  # notes since then
         self.journal, self._lives = Journal(journal, processes), Lives(f"{journal}.lives")
         self.feed = Feed(self.journal, command, self._recovered, self._refused)
         self.members = [Member(p, wire.start_of(p, processes)) for p in range(processes)]
@@ -121,6 +124,38 @@ class Roster:
     def add_life(self, kind: str, member: Member) -> None:
         """Keeps what has become of the life that reports for a process."""
         self._lives.add(kind, member.process, member.life, self.recoveries)
+
+    # What no recovery needs any more.
+
+    def count(self, notes: int) -> None:
+        """Counts notes that were kept, and after so many lets go what is not needed any more."""
+        self._since += notes
+        if self._forget_every and self._since >= self._forget_every:
+            self._since = 0
+            self.start(self._forget_quietly())
+
+    async def forget(self) -> bytes:
+        """Has the service let go what no recovery needs, and answers what is gone in all.
+
+        The journal says where, so that a service that is started again lets it go there too.
+        """
+        async with self._recovering:
+            await self.ready.wait()
+            self.feed.floors = b""
+            self.journal.append(b"forget\n")
+            if self._is_durable:
+                self.journal.sync()
+            await self.feed.ask("")
+            if not self.feed.floors:
+                raise Refusal("nothing more can be let go: numbers would be too great")
+            return self.feed.floors
+
+    async def _forget_quietly(self) -> None:
+        """Lets go what no recovery needs, unless that is refused."""
+        try:
+            await self.forget()
+        except (Refusal, OSError) as error:
+            logger.error("nothing was let go: %s", error)
 
     # Recoveries.
 

@@ -14,7 +14,9 @@ STATES = {
 
 def words_of(asked: str, said: dict[str, Any]) -> str:
     """An answer in words, a line for each process."""
-    return "\n".join(_status(said) if asked == "status" else _plan(asked, said))
+    if asked == "status":
+        return "\n".join(_status(said))
+    return "\n".join(_floors(said) if asked == "forget" else _plan(asked, said))
 
 
 def _count(many: int, what: str) -> str:
@@ -36,6 +38,13 @@ def _status(said: dict[str, Any]) -> Iterator[str]:
     else:
         starts, late = _count(service["starts"], "time"), _count(behind, "byte")
         yield f"the service is process {service['pid']}, started {starts}, and {late} behind"
+
+
+def _floors(said: dict[str, Any]) -> Iterator[str]:
+    """What is let go of each process."""
+    for p, floor in enumerate(said["floors"]):
+        first = f"its check {floor['check']}" if floor["check"] else "its initial state"
+        yield f"process {p} begins with {first}; {_count(floor['sends'], 'message')} let go"
 
 
 def _plan(asked: str, said: dict[str, Any]) -> Iterator[str]:

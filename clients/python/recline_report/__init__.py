@@ -11,7 +11,7 @@ Each process notes by itself what it sent, received and stored. A thread sends t
 of all processes, in whatever order they come. Linux, Python 3.10, the standard library alone.
 """
 
-from recline import MessageName
+from recline import Floor, MessageName
 
 from .asking import Hub, HubPlan
 from .desk import NoteRefused, Over, TakenAsFailed, WentBack
@@ -21,6 +21,6 @@ from .waiting import AsyncReporter
 from .wire import HubError, Letter, Recovery, Run
 
 __all__ = [
-    "AsyncReporter", "Hub", "HubError", "HubPlan", "Letter", "MessageName", "NoteRefused", "Over",
-    "Recovery", "Reporter", "Run", "TakenAsFailed", "WentBack", "merge", "recoveries_from",
+    "AsyncReporter", "Floor", "Hub", "HubError", "HubPlan", "Letter", "MessageName", "NoteRefused",
+    "Over", "Recovery", "Reporter", "Run", "TakenAsFailed", "WentBack", "merge", "recoveries_from",
 ]

@@ -6,7 +6,7 @@ import os
 from collections.abc import Iterable, Sequence
 from typing import Any, NamedTuple
 
-from recline import MessageName, Passed
+from recline import Floor, MessageName, Passed
 
 from . import wire
 from .wire import HubError
@@ -43,6 +43,15 @@ def plan_of(text: str) -> HubPlan:
         tuple(_name(it[1:]) for it in records[count + int(entries):]),
         int(sweeps),
     )
+
+
+def floors_of(text: str) -> tuple[Floor, ...]:
+    """What the answer of `recline collect` to `forget` says of each process."""
+    first, *records = text.removesuffix("\n").split("\n")
+    if first != "forgot,-":
+        raise HubError(first)
+    fields = [record.split(",") for record in records]
+    return tuple(Floor(int(check), int(sends)) for _, _, check, sends in fields)
 
 
 def _choice(field: str) -> int | None:
@@ -90,6 +99,15 @@ class Hub:
     def live(self) -> HubPlan:
         """The plan where every process fails. What lies before its line may be let go."""
         return plan_of(self.ask("live")["text"])
+
+    def forget(self) -> tuple[Floor, ...]:
+        """The hub itself lets go what lies before the line of `live`, which no recovery needs.
+
+        It answers of each process the check that it begins with, 0 for its initial state, and how
+        many of its first messages are gone, both counted from the beginning. All names and numbers
+        stay as they are.
+        """
+        return floors_of(self.ask("forget")["text"])
 
     def recover(self, failed: Iterable[int] = (), within: float = 10.0) -> HubPlan:
         """These processes have failed: all others are held, and each is told where it goes on.

@@ -71,7 +71,8 @@ class Recovery:
     awaited: tuple[Letter, ...]
     sends: int  # on its tape
     checks: int
-    # Of each process: the incarnations of its messages, and how many it sent before the line.
+    # Of each process: the incarnations of its messages, but for those that were let go, and how
+    # many it sent before the line.
     runs: tuple[tuple[Run, ...], ...]
     sent: tuple[int, ...]
 
@@ -120,21 +121,36 @@ def start_of(process: int, processes: int) -> Recovery:
 # What `recline collect` answers.
 
 class _Tape:
-    """What a history text has of a process."""
+    """What a history text has of a process, and what was let go before it.
 
-    def __init__(self, incarnation: int) -> None:
-        self.incarnation, self.checks = incarnation, 0
-        self.sends: list[bytes] = []  # TO, INC and HEX of each
+    Of its checks `check` was kept as the first one, or all where that is 0; of its messages the
+    first `sent` are not kept.
+    """
+
+    def __init__(self, incarnation: int, check: int, sent: int) -> None:
+        self.incarnation, self.checks = incarnation, max(check - 1, 0)
+        self.sent = sent
+        self.sends: list[bytes] = []  # TO, INC and HEX of each that is kept
+
+    @property
+    def next(self) -> int:
+        """The number of its next message."""
+        return self.sent + len(self.sends)
 
 
 def _tapes(history: bytes) -> Iterator[_Tape]:
     """The tapes of a history text."""
     tape: _Tape | None = None
+    floors: dict[bytes, tuple[int, int]] = {}
     for line in history.split(b"\n"):
-        if line.startswith(b"tape,"):
+        if line.startswith(b"floor,"):
+            _, p, check, sent = line.split(b",")
+            floors[p] = int(check), int(sent)
+        elif line.startswith(b"tape,"):
             if tape:
                 yield tape
-            tape = _Tape(int(line.split(b",")[2]))
+            _, p, incarnation = line.split(b",")
+            tape = _Tape(int(incarnation), *floors.get(p, (0, 0)))
         elif tape and line.startswith(b"send,"):
             tape.sends.append(line[5:])
         elif tape and line.startswith(b"check,"):
@@ -144,15 +160,15 @@ def _tapes(history: bytes) -> Iterator[_Tape]:
 
 
 def _runs(process: _Tape) -> Iterator[Run]:
-    """The incarnations of a process's messages, those to come included."""
+    """The incarnations of a process's messages that are kept or to come."""
     last = -1
-    for number, send in enumerate(process.sends):
+    for number, send in enumerate(process.sends, process.sent):
         incarnation = int(send.split(b",")[1])
         if incarnation != last:
             yield Run(number, incarnation)
         last = incarnation
     if last != process.incarnation:
-        yield Run(len(process.sends), process.incarnation)
+        yield Run(process.next, process.incarnation)
 
 
 def recoveries_of(number: int, plan: bytes, history: bytes) -> list[Recovery]:
@@ -167,10 +183,11 @@ def recoveries_of(number: int, plan: bytes, history: bytes) -> list[Recovery]:
     letters = []
     for record in names[:int(replays)]:
         name = MessageName(*map(int, record.split(",")[1:]))
-        to, _, body = tapes[name.sender].sends[name.number].split(b",")
+        tape = tapes[name.sender]
+        to, _, body = tape.sends[name.number - tape.sent].split(b",")
         letters.append(Letter(name, int(to), bytes.fromhex(body.decode("ascii"))))
     runs = tuple(tuple(_runs(tape)) for tape in tapes)
-    sent = tuple(len(tape.sends) for tape in tapes)
+    sent = tuple(tape.next for tape in tapes)
     stays = [line[2] == "now" for line in lines]
     return [
         Recovery(
