@@ -33,6 +33,7 @@ the thousands of pages that were touched first. A run takes some fifty times as 
 
 import argparse
 import hashlib
+import math
 import multiprocessing
 import os
 import pathlib
@@ -151,14 +152,19 @@ def counted(
             yield text, [it.result() for it in futures]
 
 
-def print_times(programs: Sequence[Program], texts: Iterator[Input]) -> None:
-    """Prints the table of times."""
+def print_times(programs: Sequence[Program], texts: Iterator[Input]) -> dict[str, float]:
+    """Prints the table of times.
+
+    Of two programs it answers for each input how many times that of the second one the shortest
+    time of the first one is.
+    """
     times = ["time ms", "processor ms", "shortest ms", "memory MB"]
     columns = ["input", "records", "MB", *times, "status"]
     if len(programs) > 1:
         columns += [f"other: {times[0]}", *times[1:]]
         columns += ["time, ratio", "processor, ratio", "shortest, ratio", "same answer"]
     head(*columns)
+    shortest = {}
     for text in texts:
         answers = [answer(program, text) for program in programs]
         figures = measure(programs, text)
@@ -167,11 +173,12 @@ def print_times(programs: Sequence[Program], texts: Iterator[Input]) -> None:
         cells += [f"{figure:.1f}" for figure in figures[0]] + [str(answers[0][0])]
         if len(programs) > 1:
             cells += [f"{figure:.1f}" for figure in figures[1]]
-            cells += [
-                f"{one / other:.2f}" if other else "-" for one, other in list(zip(*figures))[:3]
-            ]
+            ratios = [one / other if other else math.nan for one, other in zip(*figures)]
+            cells += [f"{ratio:.2f}" for ratio in ratios[:3]]
             cells.append("yes" if answers[0] == answers[1] else "no")
+            shortest[text.name] = ratios[2]
         row(cells)
+    return shortest
 
 
 def print_counts(programs: Sequence[Program], texts: Iterator[Input]) -> None:
