@@ -129,15 +129,15 @@ told_heard n i (r ∷ records) commands old new (one ∷ told) is spelt run =
     )
 
 -- commands are told these, which are the answers
-record IsTold (old : LiveMachine) (commands : List Command) (answers : List ServiceAnswer) (new : ServiceState) : Type 0 where
-  told : List CommandAnswer
-  end : LiveMachine
-  answers_are : answers ≡ map Replied told
-  new_is : new ≡ Has end
-  run : TellsAll old commands told end
+pub record IsTold (old : LiveMachine) (commands : List Command) (answers : List ServiceAnswer) (new : ServiceState) : Type 0 where
+  pub told : List CommandAnswer
+  pub end : LiveMachine
+  pub answers_are : answers ≡ map Replied told
+  pub new_is : new ≡ Has end
+  pub run : TellsAll old commands told end
 
 -- what is heard without a fault is what commands are told
-heard_told : (n i : ℕ) (records : List Record) (commands : List Command) (old : LiveMachine) (new : ServiceState) (answers : List ServiceAnswer) (outcome : Outcome) → n ≡ length old.kept.history
+pub heard_told : (n i : ℕ) (records : List Record) (commands : List Command) (old : LiveMachine) (new : ServiceState) (answers : List ServiceAnswer) (outcome : Outcome) → n ≡ length old.kept.history
     → commands_from n i records ≡ Ok commands → HearsAll service_rules (Has old) (heard_records records) answers new → worst service_rules outcome answers ≢ outcomes.Faulted → IsTold old commands answers new
 heard_told n i [] commands old new [] outcome is spelt heard good =
     record { told = []; end = old; answers_are = refl; new_is = heard; run = subst (λ (cs : List Command). TellsAll old cs [] old) (sym (none_spelt n i commands spelt)) refl }

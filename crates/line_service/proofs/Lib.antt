@@ -3,4 +3,5 @@ mod LengthLemmas
 mod LawLemmas
 mod RecordLemmas
 mod SavedLaws
+mod SavedRuns
 mod TextLemmas

@@ -23,24 +23,24 @@ use Rattle.line_service.proofs.TextLemmas.{start_text}
 -- ---- what a text spells
 
 -- a part that was read
-abbrev read_part : Part SavedParts → Result (Part SavedParts) TextFault
+abbrev pub read_part : Part SavedParts → Result (Part SavedParts) TextFault
 read_part part = Ok part
 
-same_part : (one other : Part SavedParts) → read_part one ≡ read_part other → one ≡ other
+pub same_part : (one other : Part SavedParts) → read_part one ≡ read_part other → one ≡ other
 same_part one other h = cc
 
-never_both : (part : Part SavedParts) (fault : TextFault) → read_part part ≡ Err fault → ⊥
+pub never_both : (part : Part SavedParts) (fault : TextFault) → read_part part ≡ Err fault → ⊥
 never_both part fault h = cc
 
 named_if : {A B C : Type 0} (b : Bool) (more : Unit → Result A Fault) (next : A → Result B TextFault) (last : B → Result C TextFault) (x : C) → ((at_record 1 (want b faults.NoWorld >>= more) >>= next) >>= last) ≡ Ok x → b ≡ true
 named_if true more next last x h = refl
 named_if false more next last x h = absurd cc
 
-head_named : (first : Record) (rest : List Record) (saved : Part SavedParts) → saved_of (first ∷ rest) ≡ Ok saved → is_named (codes "history") first ≡ true
+pub head_named : (first : Record) (rest : List Record) (saved : Part SavedParts) → saved_of (first ∷ rest) ≡ Ok saved → is_named (codes "history") first ≡ true
 unfolding saved_of
 head_named first rest saved h = named_if (is_named (codes "history") first) _ _ _ saved h
 
-no_records : (saved : Part SavedParts) → saved_of [] ≡ Ok saved → ⊥
+pub no_records : (saved : Part SavedParts) → saved_of [] ≡ Ok saved → ⊥
 unfolding saved_of
 no_records saved h = cc
 

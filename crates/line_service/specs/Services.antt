@@ -1,6 +1,7 @@
 -- What a service answers to the records that it hears.
 use Rattle.std.specs.Prelude.{◌≡◌, ◌+◌, ◌⊎◌, ℕ, List, [], ◌∷◌, length, map, Option, Some, None}
 use Rattle.std.specs.Prelude.{Result, Ok, codes, if◌then◌else◌, false, true}
+use Rattle.std.specs.Prelude.{◌++◌, ◌-◌, replicate}
 use Rattle.line_answers.specs.Answers.{CommandAnswer, Tells, TellsAll, is_refused}
 use Rattle.line_answers.specs.Answers.{command_answer_records}
 use Rattle.line_answers.specs.Openings.{IsUnopened, open_fault, opened}
@@ -20,6 +21,7 @@ use Rattle.line_fields.specs.Fields.{◌>>=◌, Fails}
 use Rattle.line_fields.specs.Records.{Record}
 use Rattle.line_steps.specs.declared.modes.Mode.{Mode}
 use Rattle.line_scripts.specs.declared.commands.Command.{Command}
+use Rattle.line_scripts.specs.RunScripts.{RunScript}
 use Rattle.line_scripts.specs.Scripts.{Script, command_in, world_of}
 use Rattle.line_live.specs.Lives.{LiveMachine, start_live}
 
@@ -170,4 +172,15 @@ pub record IsRunOf (script : Script) (answers : List ServiceAnswer) (new : Servi
   pub end : LiveMachine
   pub run : TellsAll (start_live script.n script.mode) script.commands told end
   pub answers_are : answers ≡ Began ∷ map Replied told
+  pub new_is : new ≡ Has end
+
+-- the machine that was saved runs the commands of a script that begins with it: each record of the
+-- saved machine is answered as one that begins, and what the commands are told are the answers
+-- after that
+pub record IsSavedRunOf (parts : SavedParts) (script : RunScript) (answers : List ServiceAnswer)
+    (new : ServiceState) : Type 0 where
+  pub told : List CommandAnswer
+  pub end : LiveMachine
+  pub run : TellsAll (opened parts) script.commands told end
+  pub answers_are : answers ≡ replicate (script.first - 1) Began ++ map Replied told
   pub new_is : new ≡ Has end

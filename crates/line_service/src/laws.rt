@@ -1,7 +1,7 @@
 //! Laws of the definitions, each the contract of a function that does nothing.
 
 ghost use Rattle.std.specs.Prelude.{◌≡◌, ◌≢◌, ◌↔◌, ◌++◌, ◌∷◌, ℕ, List, [], Ok, Result};
-ghost use Rattle.std.specs.Prelude.{map, true};
+ghost use Rattle.std.specs.Prelude.{map, replicate, true};
 ghost use Rattle.std.specs.List.{flat_map};
 ghost use Rattle.line_answers.specs.Answers.{CommandAnswer, text_of};
 ghost use Rattle.line_claims.specs.declared.faults.TextError.{TextError};
@@ -18,10 +18,11 @@ ghost use Rattle.line_fields.specs.declared.faults.ReadError.{ReadError};
 ghost use Rattle.line_fields.specs.Bytes.{is_input_text};
 ghost use Rattle.line_fields.specs.Records.{Record};
 ghost use Rattle.line_fields.specs.Texts.{records_text};
+ghost use Rattle.line_scripts.specs.RunScripts.{RunScript, Saved, run_script_of_text};
 ghost use Rattle.line_scripts.specs.Scripts.{Script, script_of_text};
 ghost use Rattle.line_service.specs.Files.{saved_of_lines};
 ghost use Rattle.line_service.specs.Services.{Began, Dropped, Empty, Faulted, Has, Hears};
-ghost use Rattle.line_service.specs.Services.{IsRunOf, Replied};
+ghost use Rattle.line_service.specs.Services.{IsRunOf, IsSavedRunOf, Replied};
 ghost use Rattle.line_service.specs.Services.{ServiceAnswer, ServiceState, service_answer_records};
 ghost use Rattle.line_service.specs.Services.{service_rules, without_text};
 
@@ -72,6 +73,22 @@ pub fn saved_machines_are_served()
         → HearsAll service_rules Empty (map Ok records) answers new
         → worst service_rules outcomes.Done answers ≢ outcomes.Faulted
         → new ≡ Has (opened saved.value) }
+{}
+
+/// A text that spells a script which begins with a saved machine, and has no line that is too long,
+/// is served as it is run: where no fault is answered, each record of the saved machine is answered
+/// as one that begins, and the commands after it are told what a run may tell them. Without the
+/// empty lines the text of the answers is that of the run.
+pub fn saved_scripts_are_served_as_they_run()
+    ensures served { (text : List ℕ) (script : RunScript) (parts : SavedParts)
+        (answers : List ServiceAnswer) (new : ServiceState)
+        → run_script_of_text text ≡ Ok script → script.machine ≡ Saved parts
+        → HasShortLines text → ServesText service_rules Empty text answers new
+        → worst service_rules outcomes.Done answers ≢ outcomes.Faulted
+        → IsSavedRunOf parts script answers new }
+    ensures texts { (count : ℕ) (told : List CommandAnswer)
+        → records_text (flat_map service_answer_records (replicate count Began ++ map Replied told))
+        ≡ text_of told }
 {}
 
 /// A text of a saved machine that has no byte that no text has, and no line that is too long, is

@@ -13,7 +13,8 @@ mod texts;
 pub use files::open_saved_text;
 pub use laws::{
     faults_change_nothing, pieces_are_answered_alike, saved_machines_are_served,
-    saved_texts_are_read_by_lines, scripts_are_served_as_they_run,
+    saved_scripts_are_served_as_they_run, saved_texts_are_read_by_lines,
+    scripts_are_served_as_they_run,
 };
 pub use line_conversations::{MOST_LINE, Outcome, ServeError};
 pub use services::{Service, serve, serve_from, serve_turn};

@@ -122,8 +122,9 @@ pub mod service {
     pub use line_conversations::{Answerer, Conversation, Stop, converse, hear_out, take_turn};
     pub use line_service::{
         MOST_LINE, Outcome, ServeError, Service, faults_change_nothing, open_saved_text,
-        pieces_are_answered_alike, saved_machines_are_served, saved_texts_are_read_by_lines,
-        scripts_are_served_as_they_run, serve, serve_from, serve_turn,
+        pieces_are_answered_alike, saved_machines_are_served, saved_scripts_are_served_as_they_run,
+        saved_texts_are_read_by_lines, scripts_are_served_as_they_run, serve, serve_from,
+        serve_turn,
     };
 }
 
