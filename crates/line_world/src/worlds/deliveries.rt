@@ -30,7 +30,7 @@ use std::alloc::Global;
 
 /// A place on a link, which a delivery picks.
 #[derive(Clone, Copy)]
-struct Place {
+struct LinkPlace {
     from: ProcId,
     to: ProcId,
     pick: u64,
@@ -60,7 +60,7 @@ impl World {
     /// Takes the message that is first on a link that keeps its order.
     fn take_first(
         &mut self,
-        place: Place,
+        place: LinkPlace,
         _state: &[u8],
         message: &MsgName,
     ) -> Result<Delivered, StepError>
@@ -104,7 +104,7 @@ impl World {
     /// Takes a copy that forces no check.
     fn take_unforced(
         &mut self,
-        place: Place,
+        place: LinkPlace,
         _state: &[u8],
         message: &MsgName,
     ) -> Result<Delivered, StepError>
@@ -145,7 +145,7 @@ impl World {
     fn take_forced(
         &mut self,
         alloc: Global,
-        place: Place,
+        place: LinkPlace,
         state: &[u8],
         message: &MsgName,
         round: u32,
@@ -203,7 +203,7 @@ impl World {
     fn deliver_message(
         &mut self,
         alloc: Global,
-        place: Place,
+        place: LinkPlace,
         state: &[u8],
         message: &MsgName,
     ) -> Result<Delivered, StepError>
@@ -244,7 +244,7 @@ impl World {
     fn deliver_marker(
         &mut self,
         alloc: Global,
-        place: Place,
+        place: LinkPlace,
         state: &[u8],
         round: u32,
     ) -> Result<Delivered, StepError>
@@ -317,7 +317,7 @@ impl World {
             return Err(e);
         }
         let _n = self.catalogue.n();
-        let place = Place { from, to, pick };
+        let place = LinkPlace { from, to, pick };
         match self.links.item(place.from, place.to, place.pick as usize) {
             Some(Item::Message(message)) => {
                 let delivered = self.deliver_message(alloc, place, state, &message)?;
