@@ -170,48 +170,45 @@ pub fn add_first(
     add_old(history, line, sender.p, sender.end, row, messages)
 }
 
-/// What the mark of a message tells, if it has one: whether it is received before the line. That it
-/// is not marked tells nothing where the kept line is not closed.
-fn told_by_mark(mark: Option<bool>, closed: bool) -> Option<bool>
-    ensures marked { result ≡ Some true → mark ≡ Some true }
-    ensures unmarked { result ≡ Some false → (closed ≡ true) × (mark ≡ Some false) }
-{
-    match mark {
-        Some(false) => { if closed { mark } else { None } }
-        _ => mark,
-    }
-}
-
-/// Adds a process's message of a number, if it is in transit: that is told, or else asked of.
-fn add_if_not_received(
+/// Adds a sender's message of a number, if it is in transit: its mark tells that it is not, and
+/// where the kept line is closed it tells that it is. Else it is asked of.
+fn add_if_not_marked(
     history: &History,
     line: &Line,
-    p: ProcId,
+    sender: &Sender<'_>,
     number: u32,
-    received: Option<bool>,
+    mark: Option<bool>,
     messages: &mut Vec<MsgName>,
 ) -> Result<(), AllocError>
     requires line { IsLine history.now.processes line.now }
-    requires process { p < length history.now.processes }
-    requires number { number < sends (events_before history.now.processes line.now p) }
-    requires received { received ≡ Some true → IsReceived history.now.processes line.now p number }
-    requires unreceived { received ≡ Some false
-        → IsUnreceived history.now.processes line.now p number }
+    requires process { sender.now.p < length history.now.processes }
+    requires number { number < sends (events_before history.now.processes line.now sender.now.p) }
+    requires known { mark ≡ Some true
+        → IsReceived history.now.processes line.now sender.now.p number }
+    requires told { sender.now.closed ≡ true → mark ≡ Some false
+        → IsUnreceived history.now.processes line.now sender.now.p number }
     ensures { OnOk result ((before : List MsgName)
-        → messages.old.items ≡ before ++ open_first history.now.processes line.now p number
-        → messages.new.items ≡ before ++ open_first history.now.processes line.now p (number + 1)) }
+        → messages.old.items ≡ before
+        ++ open_first history.now.processes line.now sender.now.p number
+        → messages.new.items ≡ before
+        ++ open_first history.now.processes line.now sender.now.p (number + 1)) }
 {
-    match received {
+    match mark {
         Some(true) => Ok(()),
         Some(false) => {
-            messages.push(MsgName {
-                from: p,
-                inc: history.tape(p).sent_under(number).unwrap(),
-                number,
-            })?;
-            Ok(())
+            let closed = sender.closed;
+            if closed {
+                messages.push(MsgName {
+                    from: sender.p,
+                    inc: history.tape(sender.p).sent_under(number).unwrap(),
+                    number,
+                })?;
+                Ok(())
+            } else {
+                add_if_open(history, line, sender.p, number, messages)
+            }
         }
-        None => add_if_open(history, line, p, number, messages),
+        None => add_if_open(history, line, sender.p, number, messages),
     }
 }
 
@@ -246,13 +243,14 @@ pub fn add_since(
         looked ≡ sends (events_before history.now.processes line.now sender.now.p)) }
 {
     let sends = history.tape(sender.p).sends_before(line.at(sender.p));
+    let base = sender.base;
+    let marks = sender.marks;
     for number in sender.end..sends {
         if most.unwrap_or(usize::MAX) < messages.len() {
             return Ok(number);
         }
-        let mark = mark_of(sender.marks, sender.base, number);
-        let received = told_by_mark(mark, sender.closed);
-        add_if_not_received(history, line, sender.p, number, received, messages)?;
+        let mark = mark_of(marks, base, number);
+        add_if_not_marked(history, line, sender, number, mark, messages)?;
     }
     Ok(sends)
 }
