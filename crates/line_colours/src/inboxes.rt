@@ -64,6 +64,7 @@ impl Inbox {
 
     /// Those of one sender. It searches for them by halves if there are any, or if there are some
     /// of a process with the same bit.
+    #[inline(always)]
     pub(crate) fn from(&self, p: ProcId) -> &[MsgName]
         ensures { result.now ≡ messages_from p self.now.messages }
     {
