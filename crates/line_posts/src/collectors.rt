@@ -136,7 +136,8 @@ impl Collector {
     ///
     /// The line stays consistent in each later history. The call costs a plan, which looks at what
     /// is in transit at the line that was kept last, and at each send and each receipt between that
-    /// line and the planned one.
+    /// line and the planned one. Where something was let go, and a name of the whole would have no
+    /// number, it answers as where memory is out; no worker has so many events.
     pub fn plan_live(&self) -> Result<Plan, PlanError>
         ensures latest { IfOk result (λ plan. (failed : List Bool)
             × HaveAllFailed (length self.now.processes) failed

@@ -205,8 +205,8 @@ fn chosen(anew: Option<Catalogue>, own: Catalogue) -> Catalogue
 ///
 /// It compares the two ends of each of n² rings, copies and adds each event that the collector has
 /// not taken, or all events where it let something go, and plans once to keep what is in transit at
-/// that line, for `plan` and `restart`;
-/// where memory for that plan is refused, nothing else differs. What lies on the rings stays there.
+/// that line, for `plan` and `restart`; where memory for that plan is refused, nothing else
+/// differs. What lies on the rings stays there.
 pub fn gather(
     mut collector: Collector,
     mut posts: Vec<Post>,
