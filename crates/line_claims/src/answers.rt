@@ -11,7 +11,8 @@ ghost use Rattle.line_claims.specs.declared.versions.TheConstants.{LAST_CHECK_VE
 ghost use Rattle.line_claims.specs.Records as spec;
 
 use crate::floors::FloorRef;
-use crate::judgements::{ClaimRef, put_claim};
+use crate::judgements::{ClaimRef, put_failed, put_line, put_passes};
+use crate::marks::put_marks;
 use crate::versions::ANSWER_VERSION;
 use crate::writers::{put_history, put_history_from};
 use line_check::{ReplayCursor, ReplayRef, next_replay};
@@ -141,7 +142,10 @@ pub fn put_answer<K: Sink>(
         claim.now.line.now claim.now.certificate.now)) }
 {
     put_history(sink, writer, ANSWER_VERSION, history)?;
-    put_claim(sink, writer, history, claim)?;
+    put_marks(sink, writer, history, claim.marks)?;
+    put_failed(sink, writer, history.n(), claim.failed)?;
+    put_line(sink, writer, claim.line)?;
+    put_passes(sink, writer, claim.certificate)?;
     put_starts(sink, writer, history, claim.line)?;
     put_replays(sink, writer, history, claim.line)?;
     put_numbers(sink, writer, b"end", &[])
@@ -169,7 +173,10 @@ pub fn put_check_text_from<K: Sink>(
         claim.now.failed.now claim.now.line.now claim.now.certificate.now))) }
 {
     put_history_from(sink, writer, floor, history)?;
-    put_claim(sink, writer, history, claim)?;
+    put_marks(sink, writer, history, claim.marks)?;
+    put_failed(sink, writer, history.n(), claim.failed)?;
+    put_line(sink, writer, claim.line)?;
+    put_passes(sink, writer, claim.certificate)?;
     put_numbers(sink, writer, b"end", &[])
 }
 
@@ -197,7 +204,10 @@ pub fn put_answer_from<K: Sink>(
         claim.now.line.now claim.now.certificate.now))) }
 {
     put_history_from(sink, writer, floor, history)?;
-    put_claim(sink, writer, history, claim)?;
+    put_marks(sink, writer, history, claim.marks)?;
+    put_failed(sink, writer, history.n(), claim.failed)?;
+    put_line(sink, writer, claim.line)?;
+    put_passes(sink, writer, claim.certificate)?;
     put_starts(sink, writer, history, claim.line)?;
     put_replays(sink, writer, history, claim.line)?;
     put_numbers(sink, writer, b"end", &[])

@@ -13,5 +13,4 @@ pub mod AgreeLemmas
 pub mod StillLemmas
 pub mod KeptMarkers
 pub mod LineFacts
-pub mod LeaningLemmas
 pub mod RecorderLemmas

@@ -13,7 +13,6 @@
 
 mod counts;
 mod fates;
-mod leanings;
 mod link_items;
 mod link_queues;
 mod links;

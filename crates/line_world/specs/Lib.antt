@@ -8,4 +8,3 @@ pub mod Sound
 pub mod Protocols
 pub mod Idle
 pub mod Deliveries
-pub mod Delivered
