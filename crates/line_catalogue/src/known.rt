@@ -239,18 +239,24 @@ fn mark_receipt(
     }
 }
 
-/// Marks what process `q` receives after its first `kept` events and before the line.
+/// A process, and how many of its first events are not walked.
+#[derive(Clone, Copy)]
+struct Receiver {
+    p: ProcId,
+    place: u32,
+}
+
+/// Marks what a process receives after its place and before the line.
 fn mark_receipts(
     history: &History,
     line: &Line,
-    q: ProcId,
-    kept: u32,
+    receiver: Receiver,
     bases: &[u32],
     starts: &[usize],
     marks: &mut [bool],
 )
     requires line { IsLine history.now.processes line.now }
-    requires process { q < length history.now.processes }
+    requires process { receiver.p < length history.now.processes }
     requires bases { length bases.now ≡ length history.now.processes }
     requires rows { AreMarkRows history.now.processes starts.now marks.old }
     ensures known { AreKnown history.now.processes line.now bases.now starts.now marks.old
@@ -258,11 +264,11 @@ fn mark_receipts(
     ensures kept { (i : ℕ) → slice_index_or marks.old i false ≡ true
         → slice_index_or marks.new i false ≡ true }
     ensures noted { AreReceiptsMarkedSince history.now.processes line.now bases.now starts.now
-        marks.new q
-        kept }
+        marks.new receiver.p receiver.place }
 {
+    let q = receiver.p;
     let events = history.tape(q).front(line.at(q));
-    for i in kept as usize..events.len() {
+    for i in receiver.place as usize..events.len() {
         mark_receipt(history, q, &events.at(i), bases, starts, marks);
     }
 }
@@ -296,14 +302,15 @@ fn mark_all(
     let starts = find_starts(history, bases.as_slice(), alloc, line)?;
     let all = starts[starts.len() - 1];
     let mut marks = vec![in alloc; false; all]?;
-    for receiver in 0..n {
-        let q = ProcId::try_new(receiver, n).unwrap();
-        let place = places[receiver as usize];
+    for q in 0..n {
+        let receiver = Receiver {
+            p: ProcId::try_new(q, n).unwrap(),
+            place: places[q as usize],
+        };
         mark_receipts(
             history,
             line,
-            q,
-            place,
+            receiver,
             bases.as_slice(),
             starts.as_slice(),
             marks.as_mut_slice(),

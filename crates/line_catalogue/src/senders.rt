@@ -16,7 +16,26 @@ use crate::known::mark_of;
 use crate::numbers::Numbers;
 use line_names::{Line, MsgName, ProcId};
 use line_tape::History;
-use std::alloc::{AllocError, Global};
+use std::alloc::AllocError;
+
+/// A process that sent messages, and what is known of them, so that few of them are asked of.
+#[derive(Clone, Copy)]
+pub struct Sender<'a> {
+    pub p: ProcId,
+    /// How many of its first messages are looked at apart from the later ones.
+    pub end: u32,
+    /// The messages that were kept, of all senders.
+    pub left: &'a [MsgName],
+    /// The numbers of those first messages that are in transit and were not kept, and of others.
+    pub row: &'a Numbers,
+    /// The first message that has a mark.
+    pub base: u32,
+    /// The marks: what is marked is received before the line.
+    pub marks: &'a [bool],
+    /// Whether the kept line is closed: of the later messages, what has a mark and is not marked is
+    /// not received before the line.
+    pub closed: bool,
+}
 
 /// Whether a process receives the message before the line.
 fn is_received(history: &History, line: &Line, q: ProcId, message: &MsgName) -> bool
@@ -114,118 +133,124 @@ fn sent_by<'a>(messages: &'a [MsgName], p: ProcId) -> &'a [MsgName]
     &messages[start..end]
 }
 
-/// Adds those of a process's first `end` messages that are in transit. Where the row is empty only
-/// what was kept can be, and little has to be asked; else the numbers of both are put in order.
+/// Adds those of a sender's first messages that are in transit. Where the row is empty only what
+/// was kept can be, and little has to be asked; else the numbers of both are put in order.
 pub fn add_first(
     history: &History,
     line: &Line,
-    p: ProcId,
-    end: u32,
-    left: &[MsgName],
-    row: &Numbers,
-    base: u32,
-    known: &[bool],
-    alloc: Global,
+    sender: &Sender<'_>,
     messages: &mut Vec<MsgName>,
 ) -> Result<(), AllocError>
     requires line { IsLine history.now.processes line.now }
-    requires process { p < length history.now.processes }
-    requires end { end ≤ sends (events_before history.now.processes line.now p) }
-    requires order { ComeInOrder left.now }
-    requires sent { AreSent history.now.processes left.now }
-    requires held { HasOpenBeside history.now.processes line.now p end row.now left.now }
-    requires told { AreMarksExact history.now.processes line.now p base known.now left.now }
-    ensures { OnOk result (messages.new.items
-        ≡ messages.old.items ++ open_first history.now.processes line.now p end) }
+    requires process { sender.now.p < length history.now.processes }
+    requires end { sender.now.end ≤ sends (events_before history.now.processes line.now
+        sender.now.p) }
+    requires order { ComeInOrder sender.now.left.now }
+    requires sent { AreSent history.now.processes sender.now.left.now }
+    requires held { HasOpenBeside history.now.processes line.now sender.now.p sender.now.end
+        sender.now.row.now sender.now.left.now }
+    requires told { AreMarksExact history.now.processes line.now sender.now.p sender.now.base
+        sender.now.marks.now sender.now.left.now }
+    ensures { OnOk result (messages.new.items ≡ messages.old.items
+        ++ open_first history.now.processes line.now sender.now.p sender.now.end) }
 {
-    let kept = sent_by(left, p);
-    if row.is_empty() {
+    let kept = sent_by(sender.left, sender.p);
+    if sender.row.is_empty() {
         for message in kept {
-            if message.number < end && is_open(history, line, message, base, known) {
+            if message.number < sender.end
+                && is_open(history, line, message, sender.base, sender.marks)
+            {
                 messages.push(*message)?;
             }
         }
         return Ok(());
     }
-    let both = Numbers::of_both(kept, row, alloc)?;
-    add_old(history, line, p, end, both.as_slice(), messages)
+    let both = Numbers::of_both(kept, sender.row, *messages.allocator())?;
+    let row = both.as_slice();
+    add_old(history, line, sender.p, sender.end, row, messages)
 }
 
-/// Adds a process's message of a number, if it is in transit: its mark tells that it is not, and
+/// Adds a sender's message of a number, if it is in transit: its mark tells that it is not, and
 /// where the kept line is closed it tells that it is. Else it is asked of.
 fn add_if_not_marked(
     history: &History,
     line: &Line,
-    p: ProcId,
+    sender: &Sender<'_>,
     number: u32,
-    closed: bool,
     mark: Option<bool>,
     messages: &mut Vec<MsgName>,
 ) -> Result<(), AllocError>
     requires line { IsLine history.now.processes line.now }
-    requires process { p < length history.now.processes }
-    requires number { number < sends (events_before history.now.processes line.now p) }
-    requires known { mark ≡ Some true → IsReceived history.now.processes line.now p number }
-    requires told { closed ≡ true → mark ≡ Some false
-        → IsUnreceived history.now.processes line.now p number }
+    requires process { sender.now.p < length history.now.processes }
+    requires number { number < sends (events_before history.now.processes line.now sender.now.p) }
+    requires known { mark ≡ Some true
+        → IsReceived history.now.processes line.now sender.now.p number }
+    requires told { sender.now.closed ≡ true → mark ≡ Some false
+        → IsUnreceived history.now.processes line.now sender.now.p number }
     ensures { OnOk result ((before : List MsgName)
-        → messages.old.items ≡ before ++ open_first history.now.processes line.now p number
-        → messages.new.items ≡ before ++ open_first history.now.processes line.now p (number + 1)) }
+        → messages.old.items ≡ before
+        ++ open_first history.now.processes line.now sender.now.p number
+        → messages.new.items ≡ before
+        ++ open_first history.now.processes line.now sender.now.p (number + 1)) }
 {
     match mark {
         Some(true) => Ok(()),
         Some(false) => {
+            let closed = sender.closed;
             if closed {
                 messages.push(MsgName {
-                    from: p,
-                    inc: history.tape(p).sent_under(number).unwrap(),
+                    from: sender.p,
+                    inc: history.tape(sender.p).sent_under(number).unwrap(),
                     number,
                 })?;
                 Ok(())
             } else {
-                add_if_open(history, line, p, number, messages)
+                add_if_open(history, line, sender.p, number, messages)
             }
         }
-        None => add_if_open(history, line, p, number, messages),
+        None => add_if_open(history, line, sender.p, number, messages),
     }
 }
 
-/// Adds the messages of a process that are in transit, but for its first `end` ones: those that
-/// their marks tell, and of those that are not known each that is not received. It stops where
-/// there are more messages than the most, and answers at how many sends it has looked.
+/// Adds the messages of a sender that are in transit, but for its first ones: those that their
+/// marks tell, and of those that are not known each that is not received. It stops where there are
+/// more messages than the most, and answers at how many sends it has looked.
 pub fn add_since(
     history: &History,
     line: &Line,
-    p: ProcId,
-    end: u32,
-    closed: bool,
-    base: u32,
-    known: &[bool],
+    sender: &Sender<'_>,
     most: Option<usize>,
     messages: &mut Vec<MsgName>,
 ) -> Result<u32, AllocError>
     requires line { IsLine history.now.processes line.now }
-    requires process { p < length history.now.processes }
-    requires end { end ≤ sends (events_before history.now.processes line.now p) }
-    requires known { AreReceived history.now.processes line.now p base known.now }
-    requires told { closed ≡ true
-        → AreMarksExactSince history.now.processes line.now p end base known.now }
+    requires process { sender.now.p < length history.now.processes }
+    requires end { sender.now.end ≤ sends (events_before history.now.processes line.now
+        sender.now.p) }
+    requires known { AreReceived history.now.processes line.now sender.now.p sender.now.base
+        sender.now.marks.now }
+    requires told { sender.now.closed ≡ true
+        → AreMarksExactSince history.now.processes line.now sender.now.p sender.now.end
+        sender.now.base sender.now.marks.now }
     ensures found { IfOk result (λ looked. (before : List MsgName)
-        → messages.old.items ≡ before ++ open_first history.now.processes line.now p end
-        → messages.new.items ≡ before ++ open_first history.now.processes line.now p looked) }
-    ensures since { IfOk result (λ looked. end ≤ looked) }
+        → messages.old.items ≡ before
+        ++ open_first history.now.processes line.now sender.now.p sender.now.end
+        → messages.new.items ≡ before
+        ++ open_first history.now.processes line.now sender.now.p looked) }
+    ensures since { IfOk result (λ looked. sender.now.end ≤ looked) }
     ensures few { IfOk result (λ looked.
-        looked ≤ sends (events_before history.now.processes line.now p)) }
+        looked ≤ sends (events_before history.now.processes line.now sender.now.p)) }
     ensures all { most ≡ None → IfOk result (λ looked.
-        looked ≡ sends (events_before history.now.processes line.now p)) }
+        looked ≡ sends (events_before history.now.processes line.now sender.now.p)) }
 {
-    let sends = history.tape(p).sends_before(line.at(p));
-    for number in end..sends {
+    let sends = history.tape(sender.p).sends_before(line.at(sender.p));
+    let base = sender.base;
+    let marks = sender.marks;
+    for number in sender.end..sends {
         if most.unwrap_or(usize::MAX) < messages.len() {
             return Ok(number);
         }
-        let mark = mark_of(known, base, number);
-        add_if_not_marked(history, line, p, number, closed, mark, messages)?;
+        let mark = mark_of(marks, base, number);
+        add_if_not_marked(history, line, sender, number, mark, messages)?;
     }
     Ok(sends)
 }

@@ -1,8 +1,8 @@
 //! How a ledger settles: which sends have not to be looked at again, but for what is left of them.
-ghost use Rattle.std.specs.Prelude.{◌≡◌, ◌<◌, ◌≤◌, ◌++◌, length, IfOk};
+ghost use Rattle.std.specs.Prelude.{◌≡◌, ◌<◌, ◌≤◌, ◌++◌, true, length, IfOk};
 ghost use Rattle.line_tape.specs.Event.{sends};
 ghost use Rattle.line_tape.specs.Line.{events_before, IsLine};
-ghost use Rattle.line_catalogue.specs.Known.{AreReceived, AreMarksExact};
+ghost use Rattle.line_catalogue.specs.Known.{AreReceived, AreMarksExact, AreMarksExactSince};
 ghost use Rattle.line_catalogue.specs.Left.{open_first, AreLeft, AreSent, AreSettledUpTo};
 ghost use Rattle.line_catalogue.specs.Left.{ComeInOrder, HasOpenBeside};
 
@@ -10,8 +10,7 @@ use crate::candidates::candidates;
 use crate::ends::ends_before;
 use crate::kept_lines::KeptLine;
 use crate::known::find_known;
-use crate::numbers::Numbers;
-use crate::senders::{add_first, add_since};
+use crate::senders::{Sender, add_first, add_since};
 use line_names::{Line, MsgName, ProcId, ProcSet};
 use line_tape::History;
 use std::alloc::{AllocError, Global};
@@ -34,53 +33,43 @@ pub struct Settled {
 fn settle_sender(
     history: &History,
     line: &Line,
-    p: ProcId,
-    end: u32,
-    left: &[MsgName],
-    row: &Numbers,
-    base: u32,
-    known: &[bool],
-    alloc: Global,
+    sender: &Sender<'_>,
     credit: &mut usize,
     messages: &mut Vec<MsgName>,
 ) -> Result<u32, AllocError>
     requires line { IsLine history.now.processes line.now }
-    requires process { p < length history.now.processes }
-    requires end { end ≤ sends (events_before history.now.processes line.now p) }
-    requires order { ComeInOrder left.now }
-    requires sent { AreSent history.now.processes left.now }
-    requires held { HasOpenBeside history.now.processes line.now p end row.now left.now }
-    requires known { AreReceived history.now.processes line.now p base known.now }
-    requires told { AreMarksExact history.now.processes line.now p base known.now left.now }
+    requires process { sender.now.p < length history.now.processes }
+    requires end { sender.now.end ≤ sends (events_before history.now.processes line.now
+        sender.now.p) }
+    requires order { ComeInOrder sender.now.left.now }
+    requires sent { AreSent history.now.processes sender.now.left.now }
+    requires held { HasOpenBeside history.now.processes line.now sender.now.p sender.now.end
+        sender.now.row.now sender.now.left.now }
+    requires known { AreReceived history.now.processes line.now sender.now.p sender.now.base
+        sender.now.marks.now }
+    requires told { AreMarksExact history.now.processes line.now sender.now.p sender.now.base
+        sender.now.marks.now sender.now.left.now }
+    requires told_since { sender.now.closed ≡ true
+        → AreMarksExactSince history.now.processes line.now sender.now.p sender.now.end
+        sender.now.base sender.now.marks.now }
     ensures before { IfOk result (λ start.
-        start ≤ sends (events_before history.now.processes line.now p)) }
+        start ≤ sends (events_before history.now.processes line.now sender.now.p)) }
     ensures left { IfOk result (λ start. messages.new.items
-        ≡ messages.old.items ++ open_first history.now.processes line.now p start) }
+        ≡ messages.old.items ++ open_first history.now.processes line.now sender.now.p start) }
 {
-    let sends = history.tape(p).sends_before(line.at(p));
+    let end = sender.end;
+    let sends = history.tape(sender.p).sends_before(line.at(sender.p));
     let most = messages
         .len()
         .saturating_add(sends as usize / SENDS_FOR_A_MESSAGE);
-    add_first(
-        history, line, p, end, left, row, base, known, alloc, messages,
-    )?;
+    add_first(history, line, sender, messages)?;
     let first = messages.len();
     let asked = sends.saturating_sub(end) as usize;
     if *credit < asked {
         return Ok(end);
     }
     *credit -= asked;
-    let looked = add_since(
-        history,
-        line,
-        p,
-        end,
-        false,
-        base,
-        known,
-        Some(most),
-        messages,
-    )?;
+    let looked = add_since(history, line, sender, Some(most), messages)?;
     if looked == sends {
         return Ok(sends);
     }
@@ -108,21 +97,17 @@ pub fn find_settled(
     let received = find_known(history, ends, kept.places, kept.left.len(), alloc, line);
     let mut moved = Vec::with_capacity(alloc, n as usize)?;
     let mut messages = Vec::with_capacity(alloc, kept.left.len())?;
-    for sender in 0..n {
-        let p = ProcId::try_new(sender, n).unwrap();
-        let start = settle_sender(
-            history,
-            line,
-            p,
-            ends[sender as usize],
-            kept.left,
-            &rows[sender as usize],
-            received.base(sender),
-            received.row(sender),
-            alloc,
-            credit,
-            &mut messages,
-        )?;
+    for p in 0..n {
+        let sender = Sender {
+            p: ProcId::try_new(p, n).unwrap(),
+            end: ends[p as usize],
+            left: kept.left,
+            row: &rows[p as usize],
+            base: received.base(p),
+            marks: received.row(p),
+            closed: false,
+        };
+        let start = settle_sender(history, line, &sender, credit, &mut messages)?;
         moved.push_reserved(start);
     }
     Ok(Settled {

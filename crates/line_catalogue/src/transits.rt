@@ -8,7 +8,7 @@ use crate::candidates::candidates;
 use crate::ends::ends_before;
 use crate::kept_lines::KeptLine;
 use crate::known::find_known;
-use crate::senders::{add_first, add_since};
+use crate::senders::{Sender, add_first, add_since};
 use line_names::{Line, MsgName, ProcId, ProcSet};
 use line_tape::History;
 use std::alloc::{AllocError, Global};
@@ -37,34 +37,18 @@ pub fn find_transit(
     let rows = candidates(history, ends, kept.places, strangers, alloc, line)?;
     let received = find_known(history, ends, kept.places, kept.left.len(), alloc, line);
     let mut messages = Vec::with_capacity(alloc, kept.left.len())?;
-    for sender in 0..n {
-        let p = ProcId::try_new(sender, n).unwrap();
-        let end = ends[sender as usize];
-        let base = received.base(sender);
-        let known = received.row(sender);
-        add_first(
-            history,
-            line,
-            p,
-            end,
-            kept.left,
-            &rows[sender as usize],
-            base,
-            known,
-            alloc,
-            &mut messages,
-        )?;
-        add_since(
-            history,
-            line,
-            p,
-            end,
-            kept.closed,
-            base,
-            known,
-            None,
-            &mut messages,
-        )?;
+    for p in 0..n {
+        let sender = Sender {
+            p: ProcId::try_new(p, n).unwrap(),
+            end: ends[p as usize],
+            left: kept.left,
+            row: &rows[p as usize],
+            base: received.base(p),
+            marks: received.row(p),
+            closed: kept.closed,
+        };
+        add_first(history, line, &sender, &mut messages)?;
+        add_since(history, line, &sender, None, &mut messages)?;
     }
     Ok(messages)
 }

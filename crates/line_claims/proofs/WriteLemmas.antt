@@ -8,6 +8,7 @@ use Rattle.line_devices.specs.declared.devices.DeviceFault.{DeviceFault}
 use Rattle.line_devices.specs.Devices.{Outputs, Puts, PutsButEnd}
 use Rattle.line_devices.proofs.OutputLemmas.{IsOut, outputs_on}
 use Rattle.line_fields.proofs.OutletLemmas.{both_texts, join_more}
+use Rattle.line_fields.specs.Records.{Record}
 use Rattle.line_fields.specs.Texts.{record_text, records_text}
 use Rattle.line_names.specs.declared.choices.Choice.{Choice}
 use Rattle.line_names.specs.Sets.{is_member}
@@ -96,20 +97,12 @@ pub front_first : (version : ℕ) (floors : List (ℕ × ℕ)) (history : List P
     ≡ records_text (front_records version floors history) ++ records_text (marks_records claim.marks ++ judged_records (length history) claim.failed claim.line claim.certificate claim.starts claim.replays)
 front_first version floors history claim = both_texts (front_records version floors history) (marks_records claim.marks ++ judged_records (length history) claim.failed claim.line claim.certificate claim.starts claim.replays)
 
-pub marks_next : (n : ℕ) (claim : Claim) → records_text (marks_records claim.marks ++ judged_records n claim.failed claim.line claim.certificate claim.starts claim.replays)
-    ≡ records_text (marks_records claim.marks) ++ records_text (judged_records n claim.failed claim.line claim.certificate claim.starts claim.replays)
-marks_next n claim = both_texts (marks_records claim.marks) (judged_records n claim.failed claim.line claim.certificate claim.starts claim.replays)
-
-pub failed_next : (n : ℕ) (claim : Claim) → records_text (judged_records n claim.failed claim.line claim.certificate claim.starts claim.replays)
-    ≡ record_text (failed_record n claim.failed) ++ records_text (line_record claim.line ∷ (map pass_record claim.certificate ++ rest_records claim.starts claim.replays))
-failed_next n claim = refl
-
-pub line_next : (claim : Claim) → records_text (line_record claim.line ∷ (map pass_record claim.certificate ++ rest_records claim.starts claim.replays))
-    ≡ record_text (line_record claim.line) ++ records_text (map pass_record claim.certificate ++ rest_records claim.starts claim.replays)
-line_next claim = refl
-
-pub passes_next : (claim : Claim) → records_text (map pass_record claim.certificate ++ rest_records claim.starts claim.replays) ≡ records_text (map pass_record claim.certificate) ++ records_text (rest_records claim.starts claim.replays)
-passes_next claim = both_texts (map pass_record claim.certificate) (rest_records claim.starts claim.replays)
+pub claim_next : (n : ℕ) (claim : Claim) → records_text (marks_records claim.marks ++ judged_records n claim.failed claim.line claim.certificate claim.starts claim.replays)
+    ≡ records_text (marks_records claim.marks ++ (failed_record n claim.failed ∷ line_record claim.line ∷ map pass_record claim.certificate)) ++ records_text (rest_records claim.starts claim.replays)
+claim_next n claim =
+    let judged : List Record = failed_record n claim.failed ∷ line_record claim.line ∷ map pass_record claim.certificate in
+    let rest : List Record = rest_records claim.starts claim.replays in
+    ap records_text (sym (append_assoc (marks_records claim.marks) judged rest)) ∙ both_texts (marks_records claim.marks ++ judged) rest
 
 pub starts_next : (claim : Claim) → records_text (rest_records claim.starts claim.replays) ≡ records_text (starts_records 0 claim.starts) ++ records_text (map full_replay_record claim.replays ++ end_record ∷ [])
 starts_next claim = both_texts (starts_records 0 claim.starts) (map full_replay_record claim.replays ++ end_record ∷ [])

@@ -11,8 +11,7 @@ ghost use Rattle.line_claims.specs.declared.versions.TheConstants.{LAST_CHECK_VE
 ghost use Rattle.line_claims.specs.Records as spec;
 
 use crate::floors::FloorRef;
-use crate::judgements::{ClaimRef, put_failed, put_line, put_passes};
-use crate::marks::put_marks;
+use crate::judgements::{ClaimRef, put_claim};
 use crate::versions::ANSWER_VERSION;
 use crate::writers::{put_history, put_history_from};
 use line_check::{ReplayCursor, ReplayRef, next_replay};
@@ -142,10 +141,7 @@ pub fn put_answer<K: Sink>(
         claim.now.line.now claim.now.certificate.now)) }
 {
     put_history(sink, writer, ANSWER_VERSION, history)?;
-    put_marks(sink, writer, history, claim.marks)?;
-    put_failed(sink, writer, history.n(), claim.failed)?;
-    put_line(sink, writer, claim.line)?;
-    put_passes(sink, writer, claim.certificate)?;
+    put_claim(sink, writer, history, claim)?;
     put_starts(sink, writer, history, claim.line)?;
     put_replays(sink, writer, history, claim.line)?;
     put_numbers(sink, writer, b"end", &[])
@@ -173,10 +169,7 @@ pub fn put_check_text_from<K: Sink>(
         claim.now.failed.now claim.now.line.now claim.now.certificate.now))) }
 {
     put_history_from(sink, writer, floor, history)?;
-    put_marks(sink, writer, history, claim.marks)?;
-    put_failed(sink, writer, history.n(), claim.failed)?;
-    put_line(sink, writer, claim.line)?;
-    put_passes(sink, writer, claim.certificate)?;
+    put_claim(sink, writer, history, claim)?;
     put_numbers(sink, writer, b"end", &[])
 }
 
@@ -204,10 +197,7 @@ pub fn put_answer_from<K: Sink>(
         claim.now.line.now claim.now.certificate.now))) }
 {
     put_history_from(sink, writer, floor, history)?;
-    put_marks(sink, writer, history, claim.marks)?;
-    put_failed(sink, writer, history.n(), claim.failed)?;
-    put_line(sink, writer, claim.line)?;
-    put_passes(sink, writer, claim.certificate)?;
+    put_claim(sink, writer, history, claim)?;
     put_starts(sink, writer, history, claim.line)?;
     put_replays(sink, writer, history, claim.line)?;
     put_numbers(sink, writer, b"end", &[])

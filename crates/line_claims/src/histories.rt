@@ -242,7 +242,6 @@ fn event_at(
 /// Takes the events of the tape that was begun last, if one was, from the record in the row on, and
 /// says whether the row then has a record that is none.
 pub(crate) fn take_open_tape<'a>(
-    alloc: Global,
     records: &mut RecordReader<'a>,
     history: &mut History,
     tapes: u32,
@@ -275,6 +274,7 @@ pub(crate) fn take_open_tape<'a>(
     if tapes == 0 {
         return Ok(true);
     }
+    let alloc = *bytes.allocator();
     let Ok(at) = ProcId::try_new(tapes - 1, history.n()) else {
         unreachable!()
     };

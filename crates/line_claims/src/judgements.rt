@@ -1,6 +1,6 @@
 //! Claims, written record by record.
 
-ghost use Rattle.std.specs.Prelude.{◌≡◌, ◌≤◌, ◌++◌, [], map};
+ghost use Rattle.std.specs.Prelude.{◌≡◌, ◌≤◌, ◌++◌, ◌∷◌, [], length, map};
 ghost use Rattle.line_devices.specs.Devices.{Outputs};
 ghost use Rattle.line_names.specs.declared.limits.TheConstants.{MOST_PROCESSES};
 ghost use Rattle.line_fields.specs.Texts.{record_text, records_text};
@@ -32,7 +32,7 @@ pub struct ClaimRef<'a> {
 }
 
 /// Writes `failed,P,..`: the processes of a set, of the first `n`, in order.
-pub(crate) fn put_failed<K: Sink>(
+fn put_failed<K: Sink>(
     sink: &mut K,
     writer: &mut RecordWriter,
     n: u32,
@@ -56,7 +56,7 @@ pub(crate) fn put_failed<K: Sink>(
 }
 
 /// Writes `line,CHOICE,..`.
-pub(crate) fn put_line<K: Sink>(
+fn put_line<K: Sink>(
     sink: &mut K,
     writer: &mut RecordWriter,
     line: &Line,
@@ -124,7 +124,7 @@ pub fn put_pass<K: Sink>(
 }
 
 /// Writes the entries of a certificate.
-pub(crate) fn put_passes<K: Sink>(
+fn put_passes<K: Sink>(
     sink: &mut K,
     writer: &mut RecordWriter,
     entries: &[Passed],
@@ -137,6 +137,27 @@ pub(crate) fn put_passes<K: Sink>(
         put_pass(sink, writer, entry)?;
     }
     Ok(())
+}
+
+/// Writes a claim on a history: its marks, who failed, its line and its certificate.
+pub(crate) fn put_claim<K: Sink>(
+    sink: &mut K,
+    writer: &mut RecordWriter,
+    history: &History,
+    claim: &ClaimRef<'_>,
+) -> Result<(), DeviceFault>
+    ensures { Outputs result (K.taken sink.old) (K.taken sink.new) (K.faults sink.old)
+        (K.faults sink.new) writer.new
+        (writer.old
+        ++ records_text
+        (spec.marks_records (spec.in_order history.now.processes claim.now.marks.now)
+        ++ (spec.failed_record (length history.now.processes) claim.now.failed.now
+        ∷ spec.line_record claim.now.line.now ∷ map spec.pass_record claim.now.certificate.now))) }
+{
+    put_marks(sink, writer, history, claim.marks)?;
+    put_failed(sink, writer, history.n(), claim.failed)?;
+    put_line(sink, writer, claim.line)?;
+    put_passes(sink, writer, claim.certificate)
 }
 
 // The version of a check text on these marks of a history: 2 where one of its processes is barred
@@ -177,9 +198,6 @@ pub fn put_check_text<K: Sink>(
 {
     let version = version_of(history, claim.marks);
     put_history(sink, writer, version, history)?;
-    put_marks(sink, writer, history, claim.marks)?;
-    put_failed(sink, writer, history.n(), claim.failed)?;
-    put_line(sink, writer, claim.line)?;
-    put_passes(sink, writer, claim.certificate)?;
+    put_claim(sink, writer, history, claim)?;
     put_numbers(sink, writer, b"end", &[])
 }

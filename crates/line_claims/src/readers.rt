@@ -185,7 +185,6 @@ fn take_row(
 // messages that are sent again, from the record in the row on, and says whether the row then has a
 // record that is none.
 fn take_many_of<'a>(
-    alloc: Global,
     records: &mut RecordReader<'a>,
     begun: &mut Option<BegunCheck>,
     number: &mut u64,
@@ -218,7 +217,7 @@ fn take_many_of<'a>(
     match begun.stage {
         CheckStage::Tapes => {
             let history = &mut begun.text.history;
-            take_open_tape(alloc, records, history, begun.tapes, number, row, bytes)
+            take_open_tape(records, history, begun.tapes, number, row, bytes)
         }
         CheckStage::Claim(ClaimStage::Replays) => {
             if begun.version < 3 {
@@ -255,7 +254,7 @@ fn take_records(
     let mut records = RecordReader::open(alloc, piece);
     let mut row = FieldRow::new(alloc);
     'records: while records.next_row(&mut row)? {
-        if !take_many_of(alloc, &mut records, begun, number, &mut row, bytes)? {
+        if !take_many_of(&mut records, begun, number, &mut row, bytes)? {
             return Ok(());
         }
         take_row(alloc, begun, *number, &row, bytes)?;

@@ -85,7 +85,7 @@ fn take_tapes<'a>(
     let mut tapes = 0u32;
     let mut number = first;
     'records: while records.next_row(row)? {
-        if !take_open_tape(alloc, records, history, tapes, &mut number, row, &mut bytes)? {
+        if !take_open_tape(records, history, tapes, &mut number, row, &mut bytes)? {
             return close_tapes(history, tapes, number);
         }
         if !take_next_tape(history, &mut tapes, number, row)? {

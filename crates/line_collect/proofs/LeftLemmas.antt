@@ -14,10 +14,10 @@ use Rattle.line_collect.specs.Answers.{going_on_record, plan_records, plan_recor
 use Rattle.line_collect.specs.LiveAnswers.{live_going_on_record, live_plan_records}
 use Rattle.line_collect.specs.Collections.{CollectionView, IsPlanOf, IsPlanToGoBack, gone_back}
 use Rattle.line_collect.specs.Lives.{ForgetsReports, IsFloorOfLive, IsLivePlan, LiveCollectionView, keeping}
-use Rattle.line_collect.proofs.AgreedChains.{chain_whole}
-use Rattle.line_collect.proofs.AgreedFloors.{floor_both, later_stays}
-use Rattle.line_collect.proofs.AgreedLatest.{cut_again, floor_below, latest_whole, whole_from_floor}
-use Rattle.line_collect.proofs.AgreedTransit.{transit_cut}
+use Rattle.line_cuts.proofs.AgreedChains.{chain_whole}
+use Rattle.line_cuts.proofs.AgreedFloors.{floor_both, later_stays}
+use Rattle.line_cuts.proofs.AgreedLatest.{cut_again, floor_below, latest_whole, whole_from_floor}
+use Rattle.line_cuts.proofs.AgreedTransit.{transit_cut}
 use Rattle.line_collect.proofs.MarksAlike.{marks_cut, marks_through, restart_same}
 use Rattle.line_collect.proofs.RestartLeft.{damaged_long, marks_same, stays_new}
 use Rattle.line_cuts.proofs.AgreementCuts.{incarnation_cut}

@@ -8,11 +8,6 @@ mod NameLemmas
 mod OrderLemmas
 mod RangeLemmas
 mod RecoveryLemmas
-mod AgreedCuts
-mod AgreedLatest
-mod AgreedChains
-mod AgreedTransit
-mod AgreedFloors
 mod MarksAlike
 mod MarksLeft
 mod RestartLeft

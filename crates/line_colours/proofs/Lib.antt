@@ -5,6 +5,7 @@ pub mod ChannelLemmas
 pub mod CompletedLemmas
 pub mod NameLemmas
 pub mod InboxLemmas
+pub mod RunLemmas
 pub mod GatherLemmas
 pub mod SameLemmas
 pub mod FlagLemmas

@@ -2,6 +2,8 @@ pub mod Kept
 pub mod Turning
 pub mod Tables
 pub mod Channels
+pub mod Runs
+pub mod Stores
 pub mod Inboxes
 pub mod Flags
 pub mod Colours

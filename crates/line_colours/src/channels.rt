@@ -1,6 +1,6 @@
 //! What is in transit at a line, from each process to each.
 ghost use Rattle.std.specs.Prelude.{◌≡◌, ◌<◌, ◌≤◌, ◌↔◌, [], List, All, AllPairs, length, replicate};
-ghost use Rattle.std.specs.Prelude.{slice_index_or, IfOk, IsTrue};
+ghost use Rattle.std.specs.Prelude.{slice_index_or, IfOk, IfSome, IsTrue};
 ghost use Rattle.line_names.specs.declared.choices.Choice.{Choice};
 ghost use Rattle.line_tape.specs.Transit.{in_transit};
 ghost use Rattle.line_colours.specs.Channels.{channels_at};
@@ -106,6 +106,87 @@ fn are_same(one: &[Inbox], other: &[Inbox]) -> bool
     true
 }
 
+/// The inbox of a process, if it has one. It searches for it by halves.
+fn inbox_of(inboxes: &[Inbox], to: ProcId) -> Option<&Inbox>
+    ensures { IfSome result (λ inbox. inbox.now.to ≡ to) }
+{
+    let place = inboxes.partition_point(|inbox| inbox.to().get() < to.get());
+    match inboxes.get(place) {
+        Some(inbox) => {
+            if inbox.to().get() != to.get() {
+                return None;
+            }
+            Some(inbox)
+        }
+        None => None,
+    }
+}
+
+/// The same inbox, if it can lean on the later one of its process.
+fn leaning_inbox(alloc: Global, inbox: &Inbox, later: &[Inbox]) -> Result<Option<Inbox>, AllocError>
+    ensures { IfOk result (λ found. IfSome found (λ leaning. leaning ≡ inbox.now)) }
+{
+    if !inbox.may_lean() {
+        return Ok(None);
+    }
+    match inbox_of(later, inbox.to()) {
+        Some(other) => inbox.lean_on(alloc, other),
+        None => Ok(None),
+    }
+}
+
+/// The same inbox, which leans on the later one of its process if it can; `leans` is set where it
+/// does.
+fn lean_or_share(
+    alloc: Global,
+    inbox: &Inbox,
+    later: &[Inbox],
+    leans: &mut bool,
+) -> Result<Inbox, AllocError>
+    ensures { IfOk result (λ leaning. leaning ≡ inbox.now) }
+{
+    match leaning_inbox(alloc, inbox, later)? {
+        Some(leaning) => {
+            *leans = true;
+            Ok(leaning)
+        }
+        None => inbox.share(alloc),
+    }
+}
+
+/// Whether one of the inboxes may lean on another.
+fn may_lean(inboxes: &[Inbox]) -> bool {
+    for inbox in inboxes {
+        if inbox.may_lean() {
+            return true;
+        }
+    }
+    false
+}
+
+/// The same inboxes, if one of them can lean on the later one of its process. Each that can does.
+fn lean_inboxes(
+    alloc: Global,
+    inboxes: &[Inbox],
+    later: &[Inbox],
+) -> Result<Option<Vec<Inbox>>, AllocError>
+    ensures { IfOk result (λ found. IfSome found (λ leaning. leaning.items ≡ inboxes.now)) }
+{
+    if !may_lean(inboxes) {
+        return Ok(None);
+    }
+    let mut leaning = Vec::with_capacity(alloc, inboxes.len())?;
+    let mut leans = false;
+    for inbox in inboxes {
+        let next = lean_or_share(alloc, inbox, later, &mut leans)?;
+        leaning.push(next)?;
+    }
+    if !leans {
+        return Ok(None);
+    }
+    Ok(Some(leaning))
+}
+
 /// What is in transit at a line, from each process to each other, by number: what the channels of a
 /// round of colours hold at its line.
 ///
@@ -191,5 +272,20 @@ impl Channels {
         ensures { IsTrue result ↔ (self.now ≡ other.now) }
     {
         self.n == other.n && are_same(&self.inboxes, &other.inboxes)
+    }
+
+    /// The same channels, in less memory, if a process has many messages in transit, and those from
+    /// each sender are the first ones from it that are in transit to the process at the later line:
+    /// then they stand in the later ones' place.
+    ///
+    /// It looks at each inbox, and where messages are many at each message up to the first that is
+    /// another one there. It takes memory for each inbox and for each sender.
+    pub fn lean_on(&self, alloc: Global, later: &Channels) -> Result<Option<Channels>, AllocError>
+        ensures { IfOk result (λ found. IfSome found (λ leaning. leaning ≡ self.now)) }
+    {
+        match lean_inboxes(alloc, &self.inboxes, &later.inboxes)? {
+            Some(inboxes) => Ok(Some(Channels { n: self.n, inboxes })),
+            None => Ok(None),
+        }
     }
 }

@@ -1,7 +1,8 @@
 //! What is in transit to one process.
-ghost use Rattle.std.specs.Prelude.{◌≡◌, ◌↔◌, ℕ, IfOk, IsTrue, length};
+ghost use Rattle.std.specs.Prelude.{◌≡◌, ◌↔◌, ℕ, IfOk, IsTrue, length, IfSome};
 ghost use Rattle.line_colours.specs.Inboxes.{messages_from, AreFrom, ComeBySender};
 
+use crate::by_sender::BySender;
 use line_names::{MsgName, ProcId};
 use std::alloc::{AllocError, Global};
 use std::marker::Model;
@@ -13,7 +14,7 @@ pub(crate) struct Inbox {
     /// A bit for each process that sent something of it, which processes 64 apart share, so that
     /// most others are passed over at a look.
     senders: u64,
-    messages: Vec<MsgName>,
+    messages: BySender,
 }
 
 impl Model for Inbox {
@@ -21,9 +22,9 @@ impl Model for Inbox {
 
     ghost Value = { InboxView };
 
-    ghost view = { λ i. record { to = i.to; messages = i.messages.items } };
+    ghost view = { λ i. record { to = i.to; messages = i.messages } };
 
-    ghost invariant = { λ i. ComeBySender i.messages.items × AreSentBy i.senders i.messages.items };
+    ghost invariant = { λ i. ComeBySender i.messages × AreSentBy i.senders i.messages };
 }
 
 impl Inbox {
@@ -46,10 +47,11 @@ impl Inbox {
         'each: for i in 0..messages.len() {
             senders |= 1 << (messages[i].from.get() % 64);
         }
+        let by_sender = BySender::new(alloc, messages)?;
         Ok(Inbox {
             to,
             senders,
-            messages,
+            messages: by_sender,
         })
     }
 
@@ -62,22 +64,52 @@ impl Inbox {
 
     /// Those of one sender. It searches for them by halves if there are any, or if there are some
     /// of a process with the same bit.
+    #[inline(always)]
     pub(crate) fn from(&self, p: ProcId) -> &[MsgName]
         ensures { result.now ≡ messages_from p self.now.messages }
     {
         if (self.senders >> (p.get() % 64)) & 1 == 0 {
             return &[];
         }
-        let messages = self.messages.as_slice();
-        let start = messages.partition_point(|message| message.from.get() < p.get());
-        let end = messages.partition_point(|message| message.from.get() <= p.get());
-        &messages[start..end]
+        self.messages.from(p)
     }
 
     /// Whether both have the same messages to the same process.
     pub(crate) fn is_same(&self, other: &Inbox) -> bool
         ensures { IsTrue result ↔ (self.now ≡ other.now) }
     {
-        self.to == other.to && self.messages.as_slice() == other.messages.as_slice()
+        self.to == other.to && self.messages.is_same(&other.messages)
+    }
+
+    /// Whether it may lean on another one.
+    pub(crate) fn may_lean(&self) -> bool {
+        self.messages.are_shared()
+    }
+
+    /// The same messages to the same process, in the same buffer where it may lean.
+    pub(crate) fn share(&self, alloc: Global) -> Result<Inbox, AllocError>
+        ensures { IfOk result (λ inbox. inbox ≡ self.now) }
+    {
+        let messages = self.messages.share(alloc)?;
+        Ok(Inbox {
+            to: self.to,
+            senders: self.senders,
+            messages,
+        })
+    }
+
+    /// The same messages to the same process, in the buffer of a later inbox, if those of each
+    /// sender are the first ones of that sender there.
+    pub(crate) fn lean_on(&self, alloc: Global, later: &Inbox) -> Result<Option<Inbox>, AllocError>
+        ensures { IfOk result (λ found. IfSome found (λ inbox. inbox ≡ self.now)) }
+    {
+        match self.messages.lean_on(alloc, &later.messages)? {
+            Some(messages) => Ok(Some(Inbox {
+                to: self.to,
+                senders: self.senders,
+                messages,
+            })),
+            None => Ok(None),
+        }
     }
 }

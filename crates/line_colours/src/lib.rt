@@ -25,12 +25,15 @@
 //! how it goes on following it after an event and after a restart.
 #![tactic(auto)]
 
+mod by_sender;
 mod channels;
 mod colours;
 mod inboxes;
 mod laws;
+mod parts;
 mod received;
 mod rules;
+mod runs;
 mod shares;
 mod turnings;
 

@@ -1,5 +1,6 @@
 //! Channels that several rounds hold together.
-ghost use Rattle.std.specs.Prelude.{◌≡◌, ◌<◌, ◌↔◌, [], IfOk, IsTrue, length, slice_index_or};
+ghost use Rattle.std.specs.Prelude.{◌≡◌, ◌<◌, ◌↔◌, [], IfOk, IfSome, IsTrue, length};
+ghost use Rattle.std.specs.Prelude.{slice_index_or};
 ghost use Rattle.line_colours.specs.Tables.{between};
 
 use crate::channels::Channels;
@@ -35,6 +36,18 @@ impl SharedChannels {
         Ok(SharedChannels { channels })
     }
 
+    /// The channels that are shared.
+    pub fn channels(&self) -> &Channels
+        ensures { result.now ≡ self.now }
+    {
+        self.channels.as_ref()
+    }
+
+    /// Whether both are held in one place. It takes constant time.
+    pub fn is_one_with(&self, other: &SharedChannels) -> bool {
+        Rc::ptr_eq(&self.channels, &other.channels)
+    }
+
     /// Whether these hold the same.
     ///
     /// It looks at no more messages than the smaller of the two holds.
@@ -52,6 +65,24 @@ impl SharedChannels {
     {
         let channels = self.channels.clone()?;
         Ok(SharedChannels { channels })
+    }
+
+    /// The same channels, in less memory, where they can lean on later ones: see
+    /// `Channels::lean_on`. None if both are held together already.
+    pub fn lean_on(
+        &self,
+        alloc: Global,
+        later: &SharedChannels,
+    ) -> Result<Option<SharedChannels>, AllocError>
+        ensures { IfOk result (λ found. IfSome found (λ shared. shared ≡ self.now)) }
+    {
+        if self.is_one_with(later) {
+            return Ok(None);
+        }
+        match self.channels.lean_on(alloc, &later.channels)? {
+            Some(channels) => Ok(Some(SharedChannels::new(alloc, channels)?)),
+            None => Ok(None),
+        }
     }
 
     /// The channel from one process to another, by number.

@@ -21,3 +21,9 @@ pub mod FloorLemmas
 pub mod SameLemmas
 pub mod WholeLemmas
 pub mod Example
+pub mod AgreedCuts
+pub mod AgreedLatest
+pub mod AgreedChains
+pub mod AgreedTransit
+pub mod AgreedFloors
+pub mod AgreedMarks

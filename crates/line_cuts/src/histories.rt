@@ -31,12 +31,13 @@ fn cut_tape(
 {
     let events = history.tape(p).front(Choice::Now);
     let mut place = TapePlace {
+        process: p,
         number: 0,
         skip: floor.check(p),
     };
     for i in 0..events.len() {
         let event = events.at(i);
-        add_left(alloc, floor, p, place, &event, cut)?;
+        add_left(alloc, floor, &place, &event, cut)?;
         place = place.after(&event);
     }
     Ok(())

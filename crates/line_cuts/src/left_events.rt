@@ -17,32 +17,36 @@ use line_names::{MsgName, ProcId};
 use line_tape::{Event, EventRef, History, State};
 use std::alloc::{AllocError, Global};
 
-/// How far a tape is cut: the number of its next send, and which check from there on is the
-/// floor's; 0 where that came before.
+/// How far the tape of a process is cut: the number of its next send, and which check from there on
+/// is the floor's; 0 where that came before.
 #[derive(Clone, Copy)]
 pub(crate) struct TapePlace {
+    pub(crate) process: ProcId,
     pub(crate) number: u32,
     pub(crate) skip: u32,
 }
 
 impl TapePlace {
     /// The place after an event.
-    pub(crate) fn after(self, event: &EventRef<'_>) -> TapePlace
-        requires { self.number < 2 ^ 32 - 1 }
-        ensures number { result.number ≡ self.number + sends (event_of_ref event.now ∷ []) }
-        ensures skip { result.skip ≡ self.skip - checks (event_of_ref event.now ∷ []) }
+    pub(crate) fn after(&self, event: &EventRef<'_>) -> TapePlace
+        requires { self.now.number < 2 ^ 32 - 1 }
+        ensures process { result.process ≡ self.now.process }
+        ensures number { result.number ≡ self.now.number + sends (event_of_ref event.now ∷ []) }
+        ensures skip { result.skip ≡ self.now.skip - checks (event_of_ref event.now ∷ []) }
     {
         match event {
             EventRef::Send { .. } => TapePlace {
+                process: self.process,
                 number: self.number + 1,
                 skip: self.skip,
             },
-            EventRef::Recv { .. } => self,
+            EventRef::Recv { .. } => *self,
             EventRef::Check { .. } => TapePlace {
+                process: self.process,
                 number: self.number,
                 skip: self.skip.saturating_sub(1),
             },
-            EventRef::Mark { .. } => self,
+            EventRef::Mark { .. } => *self,
         }
     }
 }
@@ -144,93 +148,89 @@ fn push_mark(history: &mut History, p: ProcId, from: ProcId, round: u32) -> Resu
 /// Adds a send, unless it is let go.
 fn add_send(
     floor: &OwnedFloor,
-    p: ProcId,
-    place: TapePlace,
+    place: &TapePlace,
     to: ProcId,
     inc: u16,
     body: &[u8],
     cut: &mut History,
 ) -> Result<(), AllocError>
-    requires process { p < length cut.old.processes }
+    requires process { place.now.process < length cut.old.processes }
     requires to { to < length cut.old.processes }
     requires short { length body.now ≤ MOST_BODY }
-    requires few { length (tape_at cut.old.processes p) < MOST_EVENTS }
-    ensures { OnOk result (AddsLeft floor.now p place.number place.skip (SendEvent to inc body.now)
-        cut.old.processes cut.new.processes) }
+    requires few { length (tape_at cut.old.processes place.now.process) < MOST_EVENTS }
+    ensures { OnOk result (AddsLeft floor.now place.now.process place.now.number place.now.skip
+        (SendEvent to inc body.now) cut.old.processes cut.new.processes) }
 {
-    let lost = floor.sends(p);
+    let lost = floor.sends(place.process);
     let number = place.number;
     if number < lost {
         return Ok(());
     }
-    push_send(cut, p, to, inc, body)
+    push_send(cut, place.process, to, inc, body)
 }
 
 /// Adds the receipt of a message under its name in what is left, unless the message is let go.
 fn add_receipt(
     floor: &OwnedFloor,
-    p: ProcId,
-    place: TapePlace,
+    place: &TapePlace,
     message: &MsgName,
     cut: &mut History,
 ) -> Result<(), AllocError>
-    requires process { p < length cut.old.processes }
+    requires process { place.now.process < length cut.old.processes }
     requires from { message.now.from < length cut.old.processes }
-    requires few { length (tape_at cut.old.processes p) < MOST_EVENTS }
-    ensures { OnOk result (AddsLeft floor.now p place.number place.skip (RecvEvent message.now)
-        cut.old.processes cut.new.processes) }
+    requires few { length (tape_at cut.old.processes place.now.process) < MOST_EVENTS }
+    ensures { OnOk result (AddsLeft floor.now place.now.process place.now.number place.now.skip
+        (RecvEvent message.now) cut.old.processes cut.new.processes) }
 {
     if !is_left(floor, message) {
         return Ok(());
     }
     let left = cut_name(floor, message);
-    push_receipt(cut, p, &left)
+    push_receipt(cut, place.process, &left)
 }
 
 /// Adds a check, unless it is one before the floor's.
 fn add_check(
     alloc: Global,
     floor: &OwnedFloor,
-    p: ProcId,
-    place: TapePlace,
+    place: &TapePlace,
     state: &[u8],
     round: Option<u32>,
     cut: &mut History,
 ) -> Result<(), AllocError>
-    requires process { p < length cut.old.processes }
+    requires process { place.now.process < length cut.old.processes }
     requires short { length state.now ≤ MOST_STATE }
-    requires few { length (tape_at cut.old.processes p) < MOST_EVENTS }
-    ensures { OnOk result (AddsLeft floor.now p place.number place.skip (CheckEvent state.now round)
-        cut.old.processes cut.new.processes) }
+    requires few { length (tape_at cut.old.processes place.now.process) < MOST_EVENTS }
+    ensures { OnOk result (AddsLeft floor.now place.now.process place.now.number place.now.skip
+        (CheckEvent state.now round) cut.old.processes cut.new.processes) }
 {
     let skip = place.skip;
     if 1 < skip {
         return Ok(());
     }
     let left = cut_round(floor.round(), round);
-    push_check(alloc, cut, p, state, left)
+    push_check(alloc, cut, place.process, state, left)
 }
 
 /// Adds the receipt of a marker, unless its round is let go.
 fn add_mark(
     floor: &OwnedFloor,
-    p: ProcId,
-    place: TapePlace,
+    place: &TapePlace,
     from: ProcId,
     round: u32,
     cut: &mut History,
 ) -> Result<(), AllocError>
-    requires process { p < length cut.old.processes }
+    requires process { place.now.process < length cut.old.processes }
     requires from { from < length cut.old.processes }
-    requires few { length (tape_at cut.old.processes p) < MOST_EVENTS }
-    ensures { OnOk result (AddsLeft floor.now p place.number place.skip (MarkEvent from round)
-        cut.old.processes cut.new.processes) }
+    requires few { length (tape_at cut.old.processes place.now.process) < MOST_EVENTS }
+    ensures { OnOk result (AddsLeft floor.now place.now.process place.now.number place.now.skip
+        (MarkEvent from round) cut.old.processes cut.new.processes) }
 {
     let last = floor.round();
     if round <= last {
         return Ok(());
     }
-    push_mark(cut, p, from, round)
+    push_mark(cut, place.process, from, round)
 }
 
 /// Adds what is left of an event that comes next on the tape of a process to the same process of
@@ -238,24 +238,21 @@ fn add_mark(
 pub(crate) fn add_left(
     alloc: Global,
     floor: &OwnedFloor,
-    p: ProcId,
-    place: TapePlace,
+    place: &TapePlace,
     event: &EventRef<'_>,
     cut: &mut History,
 ) -> Result<(), AllocError>
-    requires process { p < length cut.old.processes }
+    requires process { place.now.process < length cut.old.processes }
     requires named { NamesBelow (length cut.old.processes) (event_of_ref event.now) }
     requires short { IsShort (event_of_ref event.now) }
-    requires few { length (tape_at cut.old.processes p) < MOST_EVENTS }
-    ensures { OnOk result (AddsLeft floor.now p place.number place.skip (event_of_ref event.now)
-        cut.old.processes cut.new.processes) }
+    requires few { length (tape_at cut.old.processes place.now.process) < MOST_EVENTS }
+    ensures { OnOk result (AddsLeft floor.now place.now.process place.now.number place.now.skip
+        (event_of_ref event.now) cut.old.processes cut.new.processes) }
 {
     match event {
-        EventRef::Send { to, inc, body } => add_send(floor, p, place, *to, *inc, body, cut),
-        EventRef::Recv { message } => add_receipt(floor, p, place, message, cut),
-        EventRef::Check { state, round } => {
-            add_check(alloc, floor, p, place, state, *round, cut)
-        }
-        EventRef::Mark { from, round } => add_mark(floor, p, place, *from, *round, cut),
+        EventRef::Send { to, inc, body } => add_send(floor, place, *to, *inc, body, cut),
+        EventRef::Recv { message } => add_receipt(floor, place, message, cut),
+        EventRef::Check { state, round } => add_check(alloc, floor, place, state, *round, cut),
+        EventRef::Mark { from, round } => add_mark(floor, place, *from, *round, cut),
     }
 }

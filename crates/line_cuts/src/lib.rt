@@ -7,6 +7,7 @@
 //! both.
 #![tactic(auto)]
 
+mod agreed;
 mod catalogues;
 mod cuts;
 mod floors;
@@ -17,6 +18,7 @@ mod left_events;
 mod marked;
 mod whole_floors;
 
+pub use agreed::{agreed_cuts_plan_alike, agreed_floors_follow};
 pub use catalogues::cut_catalogue;
 pub use cuts::{
     cut_agrees, cut_chain, cut_consistent, cut_goes_on, cut_latest, cut_links, cut_rounds,

@@ -13,4 +13,5 @@ pub mod AgreeLemmas
 pub mod StillLemmas
 pub mod KeptMarkers
 pub mod LineFacts
+pub mod LeaningLemmas
 pub mod RecorderLemmas

@@ -23,7 +23,7 @@ use std::alloc::{AllocError, Global};
 
 /// Whether a choice is no earlier than a check, and only checks stand between the two. It takes
 /// constant time.
-fn are_checks_between(tape: &Tape, check: u32, choice: Choice) -> bool
+pub(crate) fn are_checks_between(tape: &Tape, check: u32, choice: Choice) -> bool
     requires check { HasChoice tape.now.events (AtCheck check) }
     requires choice { HasChoice tape.now.events choice }
     ensures sent { result ≡ true → (p : ℕ) → letters p 0 (front tape.now.events (AtCheck check))

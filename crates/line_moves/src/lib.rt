@@ -13,6 +13,7 @@
 
 mod counts;
 mod fates;
+mod leanings;
 mod link_items;
 mod link_queues;
 mod links;

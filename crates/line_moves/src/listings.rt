@@ -1,11 +1,13 @@
 //! The list of the rounds that are completed.
 ghost use Rattle.std.specs.Prelude.{◌≡◌, ◌<◌, ◌-◌, ◌++◌, ◌∷◌, [], true, false, filter};
-ghost use Rattle.std.specs.Prelude.{OnOk};
-ghost use Rattle.line_moves.specs.Listed.{stays};
+ghost use Rattle.std.specs.Prelude.{OnOk, All};
+ghost use Rattle.line_moves.specs.Listed.{stays, IsSnapshotOf};
 ghost use Rattle.line_moves.specs.Listings.{Climb};
 
+use crate::leanings::{are_one, lean};
 use crate::rounds::Round;
 use line_names::Line;
+use line_tape::History;
 use std::alloc::{AllocError, Global};
 use std::marker::Model;
 
@@ -24,6 +26,24 @@ fn climb_on(rounds: &[Round], climbs: bool, round: &Round) -> bool
     rounds[n - 1].is_below(round)
 }
 
+/// Whether a round has channels that were counted, and does not hold them in one place with the
+/// last of the rounds. It takes constant time.
+fn is_counted_anew(rounds: &[Round], round: &Round) -> bool {
+    if round.counted().is_none() {
+        return false;
+    }
+    match rounds.last() {
+        Some(last) => !are_one(last, round),
+        None => true,
+    }
+}
+
+/// At the first level the rounds of so many tables of channels lean on the last of them, and at
+/// each further level those of so many blocks. With each table that is counted one leans at each
+/// level, and some 32 tables of a level at most are still to lean. A greater number would keep more
+/// of them, and a smaller one would have each lean more often.
+const LEANING: usize = 16;
+
 /// The completed rounds whose checks no restart has cut, by number.
 ///
 /// In a machine the checks of each process climb from round to round. So a restart cuts checks of
@@ -32,6 +52,11 @@ fn climb_on(rounds: &[Round], climbs: bool, round: &Round) -> bool
 pub struct Listing {
     rounds: Vec<Round>,
     climbs: bool,
+    /// Where the rounds stand whose channels were counted and are not held in one place with the
+    /// last round's.
+    counted: Vec<usize>,
+    /// Whether one of these has been listed since rounds leaned.
+    is_due: bool,
 }
 
 impl Model for Listing {
@@ -56,6 +81,8 @@ impl Listing {
         Listing {
             rounds: Vec::new(alloc),
             climbs: true,
+            counted: Vec::new(alloc),
+            is_due: false,
         }
     }
 
@@ -71,6 +98,7 @@ impl Listing {
         ensures items { self.new.items ≡ self.old.items }
         ensures ok { OnOk result (0 < self.new.room) }
     {
+        self.counted.reserve(1)?;
         self.rounds.reserve(1)
     }
 
@@ -80,8 +108,49 @@ impl Listing {
         ensures { self.new.items ≡ self.old.items ++ round ∷ [] }
     {
         let climbs = climb_on(&self.rounds, self.climbs, &round);
+        if is_counted_anew(&self.rounds, &round) {
+            self.is_due = self.counted.push(self.rounds.len()).is_ok();
+        }
         self.rounds.push_reserved(round);
         self.climbs = climbs;
+    }
+
+    /// Has some earlier rounds lean on later ones, if channels were counted for a round since it
+    /// was last called.
+    ///
+    /// At each of four levels it looks at what is in transit at the checks of one round, and at
+    /// each round that holds this in one place with it. It takes memory for each process that
+    /// something is in transit to, and for each sender. Where memory is refused, rounds stay as
+    /// they are held.
+    pub(crate) fn settle(&mut self, alloc: Global, history: &History)
+        requires { All (IsSnapshotOf history.now.processes) self.old.items }
+        ensures { self.new.items ≡ self.old.items }
+    {
+        if !self.is_due {
+            return;
+        }
+        self.is_due = false;
+        self.settle_at(alloc, history, LEANING);
+        self.settle_at(alloc, history, LEANING * LEANING);
+        self.settle_at(alloc, history, LEANING * LEANING * LEANING);
+        self.settle_at(alloc, history, LEANING * LEANING * LEANING * LEANING);
+    }
+
+    /// Has one round lean at the level whose blocks have so many channels that were counted: of the
+    /// last whole block, the one at the place that the last has in its own.
+    fn settle_at(&mut self, alloc: Global, history: &History, size: usize)
+        requires size { 0 < size }
+        requires rounds { All (IsSnapshotOf history.now.processes) self.old.items }
+        ensures { self.new.items ≡ self.old.items }
+    {
+        let place = self.counted.len() % size;
+        let end = self.counted.len() - place;
+        if end < size {
+            return;
+        }
+        let first = self.counted[end - size + place];
+        let target = self.counted[end - 1];
+        let _leans = lean(alloc, history, &mut self.rounds, first, target).is_ok();
     }
 
     /// Keeps the rounds none of whose checks a restart at the line cuts. It takes no memory. Where
@@ -90,6 +159,7 @@ impl Listing {
         ensures { self.new.items ≡ filter (stays line.now) self.old.items }
     {
         if !self.climbs {
+            self.counted.truncate(0);
             self.rounds.retain(|round| round.stays(line));
             return;
         }
@@ -98,5 +168,7 @@ impl Listing {
             end -= 1;
         }
         self.rounds.truncate(end);
+        let counted = self.counted.partition_point(|place| *place < end);
+        self.counted.truncate(counted);
     }
 }

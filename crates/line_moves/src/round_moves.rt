@@ -262,6 +262,7 @@ pub fn turn_round(
     ensures kept { OnErr result (turning.new ≡ turning.old) }
     ensures unlisted { OnErr result (rounds.new.items ≡ rounds.old.items) }
 {
+    rounds.settle(alloc, catalogue.history());
     rounds.reserve()?;
     let (check, channels) = match turning {
         Some(round) => {

@@ -172,11 +172,25 @@ impl Round {
 
     /// What was in transit; none where links keep their order.
     pub(crate) fn counted(&self) -> Option<&SharedChannels>
-        ensures { (history : List Process) → IsSnapshotOf history self.now
+        ensures shape { IfSome result
+            (λ channels. IsTable (length self.now.checks) channels.now) }
+        ensures shown { IfSome result (λ channels. self.now.channels
+            ≡ channel_table (length self.now.checks) (between channels.now)) }
+        ensures transit { (history : List Process) → IsSnapshotOf history self.now
             → IfSome result
             (λ channels. AreInTransit history (check_line self.now.checks) channels.now) }
     {
         self.counted.as_ref()
+    }
+
+    /// Holds what was in transit where others hold it too.
+    pub(crate) fn hold(&mut self, channels: SharedChannels)
+        requires shape { IsTable (length self.old.checks) channels }
+        requires same { self.old.channels
+            ≡ channel_table (length self.old.checks) (between channels) }
+        ensures { self.new ≡ self.old }
+    {
+        self.counted = Some(channels);
     }
 
     /// Whether a restart at the line cuts none of its checks.

@@ -22,6 +22,21 @@ use line_names::{Choice, Line, MsgName, Passed, ProcId, ProcSet};
 use line_vectors::{LAST_NUMBER, Sent};
 use std::alloc::{AllocError, Global};
 
+/// A message that a process has received, and its sender has not sent.
+#[derive(Clone, Copy)]
+struct Orphan {
+    at: ProcId,
+    message: MsgName,
+}
+
+/// What visits go by: how many sends of each process stand before its choice, and who is to be
+/// visited.
+#[derive(Drop)]
+struct Visits {
+    sent: Sent,
+    dirty: Dirty,
+}
+
 /// The latest surviving choice of a process. It looks at one check for each that does not survive.
 fn latest_choice(catalogue: &Catalogue, failed: &ProcSet, p: ProcId) -> Choice
     requires { p < length catalogue.now.processes }
@@ -67,29 +82,34 @@ fn mark_hearers(catalogue: &Catalogue, p: ProcId, count: u32, dirty: &mut Dirty)
 fn pass_over(
     catalogue: &Catalogue,
     failed: &ProcSet,
-    at: ProcId,
-    message: MsgName,
+    orphan: Orphan,
     line: &mut Line,
     sent: &mut Sent,
     certificate: &mut Vec<Passed>,
 ) -> Result<(), AllocError>
-    requires process { at < length catalogue.now.processes }
+    requires process { orphan.at < length catalogue.now.processes }
     requires led { IsLed catalogue.now.processes catalogue.now.marks failed.now
         certificate.old.items line.old }
-    requires orphan { IsOrphan catalogue.now.processes line.old at message }
+    requires orphan { IsOrphan catalogue.now.processes line.old orphan.at orphan.message }
     requires sent { sent.old ≡ sents_of catalogue.now.processes line.old }
     ensures led { OnOk result
         (IsLed catalogue.now.processes catalogue.now.marks failed.now certificate.new.items
         line.new) }
     ensures longer { OnOk result (vec_len certificate.new ≡ vec_len certificate.old + 1) }
     ensures entry { OnOk result (certificate.new.items ≡ certificate.old.items
-        ++ record { at = at; choice = choice_at line.old at; message = message } ∷ []) }
+        ++ record {
+          at = orphan.at;
+          choice = choice_at line.old orphan.at;
+          message = orphan.message;
+        } ∷ []) }
     ensures lower { OnOk result
         (height catalogue.now.processes line.new < height catalogue.now.processes line.old) }
-    ensures alone { OnOk result (IsSameBut line.old line.new at) }
-    ensures earlier { OnOk result (IsNoLater (choice_at line.new at) (choice_at line.old at)) }
+    ensures alone { OnOk result (IsSameBut line.old line.new orphan.at) }
+    ensures earlier { OnOk result (IsNoLater (choice_at line.new orphan.at)
+        (choice_at line.old orphan.at)) }
     ensures sent { OnOk result (sent.new ≡ sents_of catalogue.now.processes line.new) }
 {
+    let Orphan { at, message } = orphan;
     let choice = line.at(at);
     let next = catalogue.next_lower(at, choice, failed).unwrap();
     certificate.push(Passed {
@@ -139,7 +159,8 @@ fn visit(
     'orphans: loop {
         match orphan_at(catalogue, line, sent, at, &mut clear) {
             Some(message) => {
-                pass_over(catalogue, failed, at, message, line, sent, certificate)?;
+                let orphan = Orphan { at, message };
+                pass_over(catalogue, failed, orphan, line, sent, certificate)?;
                 lowered = true;
                 clear = clear.min(at.get() as usize);
             }
@@ -158,42 +179,41 @@ fn visit_dirty(
     failed: &ProcSet,
     at: ProcId,
     line: &mut Line,
-    sent: &mut Sent,
-    dirty: &mut Dirty,
+    visits: &mut Visits,
     certificate: &mut Vec<Passed>,
 ) -> Result<bool, AllocError>
     requires process { at < length catalogue.now.processes }
     requires led { IsLed catalogue.now.processes catalogue.now.marks failed.now
         certificate.old.items line.old }
-    requires sent { sent.old ≡ sents_of catalogue.now.processes line.old }
-    requires clean { AreClean catalogue.now.processes line.old dirty.old }
+    requires sent { visits.old.sent ≡ sents_of catalogue.now.processes line.old }
+    requires clean { AreClean catalogue.now.processes line.old visits.old.dirty }
     ensures led { OnOk result
         (IsLed catalogue.now.processes catalogue.now.marks failed.now certificate.new.items
         line.new) }
     ensures none { OnOk result
         (AreSentBefore catalogue.now.processes line.new
         (events_before catalogue.now.processes line.new at)) }
-    ensures sent { OnOk result (sent.new ≡ sents_of catalogue.now.processes line.new) }
-    ensures clean { OnOk result (AreClean catalogue.now.processes line.new dirty.new) }
+    ensures sent { OnOk result (visits.new.sent ≡ sents_of catalogue.now.processes line.new) }
+    ensures clean { OnOk result (AreClean catalogue.now.processes line.new visits.new.dirty) }
     ensures moved { IfOk result (λ lowered.
         IsMoved catalogue.now.processes line.old (vec_len certificate.old) lowered line.new
         (vec_len certificate.new)) }
     ensures passed { IfOk result
         (λ lowered. HasPassed at lowered certificate.old.items certificate.new.items) }
-    ensures begun { IfOk result (λ lowered. lowered ≡ true → is_member dirty.old at ≡ true) }
-    ensures visited { OnOk result (is_member dirty.new at ≡ false) }
+    ensures begun { IfOk result (λ lowered. lowered ≡ true → is_member visits.old.dirty at ≡ true) }
+    ensures visited { OnOk result (is_member visits.new.dirty at ≡ false) }
     ensures fewer { IfOk result (λ lowered. lowered ≡ false → (q : ℕ)
-        → is_member dirty.new q ≡ true → is_member dirty.old q ≡ true) }
+        → is_member visits.new.dirty q ≡ true → is_member visits.old.dirty q ≡ true) }
 {
-    if !dirty.has(at) {
+    if !visits.dirty.has(at) {
         return Ok(false);
     }
-    let lowered = visit(catalogue, failed, at, line, sent, certificate)?;
+    let lowered = visit(catalogue, failed, at, line, &mut visits.sent, certificate)?;
     if lowered {
         let count = catalogue.history().tape(at).sends_before(line.at(at));
-        mark_hearers(catalogue, at, count, dirty);
+        mark_hearers(catalogue, at, count, &mut visits.dirty);
     }
-    dirty.set(at, false);
+    visits.dirty.set(at, false);
     Ok(lowered)
 }
 
@@ -203,28 +223,27 @@ fn sweep(
     catalogue: &Catalogue,
     failed: &ProcSet,
     line: &mut Line,
-    sent: &mut Sent,
-    dirty: &mut Dirty,
+    visits: &mut Visits,
     certificate: &mut Vec<Passed>,
 ) -> Result<bool, AllocError>
     requires led { IsLed catalogue.now.processes catalogue.now.marks failed.now
         certificate.old.items line.old }
-    requires sent { sent.old ≡ sents_of catalogue.now.processes line.old }
-    requires clean { AreClean catalogue.now.processes line.old dirty.old }
+    requires sent { visits.old.sent ≡ sents_of catalogue.now.processes line.old }
+    requires clean { AreClean catalogue.now.processes line.old visits.old.dirty }
     requires due { AreOfNextSweep (length catalogue.now.processes) certificate.old.items
-        dirty.old }
+        visits.old.dirty }
     ensures led { OnOk result
         (IsLed catalogue.now.processes catalogue.now.marks failed.now certificate.new.items
         line.new) }
-    ensures sent { OnOk result (sent.new ≡ sents_of catalogue.now.processes line.new) }
-    ensures clean { OnOk result (AreClean catalogue.now.processes line.new dirty.new) }
+    ensures sent { OnOk result (visits.new.sent ≡ sents_of catalogue.now.processes line.new) }
+    ensures clean { OnOk result (AreClean catalogue.now.processes line.new visits.new.dirty) }
     ensures none { IfOk result (λ lowered. lowered ≡ false
         → AreSentBelow catalogue.now.processes line.new (length catalogue.now.processes)) }
     ensures moved { IfOk result (λ lowered.
         IsMoved catalogue.now.processes line.old (vec_len certificate.old) lowered line.new
         (vec_len certificate.new)) }
     ensures due { OnOk result
-        (AreOfNextSweep (length catalogue.now.processes) certificate.new.items dirty.new) }
+        (AreOfNextSweep (length catalogue.now.processes) certificate.new.items visits.new.dirty) }
     ensures same { IfOk result
         (λ lowered. lowered ≡ false → certificate.new.items ≡ certificate.old.items) }
     ensures swept { IfOk result (λ lowered. lowered ≡ true
@@ -235,7 +254,7 @@ fn sweep(
     let mut lowered = false;
     for q in 0..n {
         let at = ProcId::try_new(q, n).unwrap();
-        let moved = visit_dirty(catalogue, failed, at, line, sent, dirty, certificate)?;
+        let moved = visit_dirty(catalogue, failed, at, line, visits, certificate)?;
         lowered |= moved;
     }
     Ok(lowered)
@@ -286,19 +305,14 @@ pub fn plan(alloc: Global, catalogue: &Catalogue, failed: &ProcSet) -> Result<Pl
 {
     let _n = catalogue.n();
     let mut line = first_ceilings(catalogue, failed);
-    let mut sent = sents_before(alloc, catalogue, &line)?;
-    let mut dirty = Dirty::everyone();
+    let mut visits = Visits {
+        sent: sents_before(alloc, catalogue, &line)?,
+        dirty: Dirty::everyone(),
+    };
     let mut certificate = Vec::new(alloc);
     let mut sweeps = 0u32;
     'sweeps: loop {
-        let lowered = sweep(
-            catalogue,
-            failed,
-            &mut line,
-            &mut sent,
-            &mut dirty,
-            &mut certificate,
-        )?;
+        let lowered = sweep(catalogue, failed, &mut line, &mut visits, &mut certificate)?;
         sweeps += 1;
         if !lowered {
             let replays = catalogue.transit(alloc, &line)?;

@@ -27,3 +27,7 @@ pub mod ExtensionLemmas
 pub mod RestartLemmas
 pub mod WholeLemmas
 pub mod TakeLemmas
+pub mod LeftLemmas
+pub mod ForgetLemmas
+pub mod PlanLemmas
+pub mod AnewLemmas

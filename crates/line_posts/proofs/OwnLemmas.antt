@@ -20,7 +20,7 @@ use Rattle.line_posts.specs.Collected.{CollectorView, IsCollector}
 use Rattle.line_posts.specs.Generations.{own_history, own_process, AreInOrder, AreLined}
 use Rattle.line_posts.specs.Gathered.{gathered_tape, AreGathered, ArePrefixes}
 use Rattle.line_posts.specs.Gathered.{HasNoneFailed, HasOwn}
-use Rattle.line_posts.specs.Gathering.{AreFurtherBelow, ArePosts, AreReady, IsOnWay}
+use Rattle.line_posts.specs.Gathering.{AreBack, AreFurtherBelow, ArePosts, AreReady, IsOnWay}
 use Rattle.line_posts.proofs.GatherLemmas.{own_tape, own_past, in_list, tape_past}
 use Rattle.line_posts.proofs.GatheringLemmas.{process_is}
 
@@ -30,7 +30,7 @@ own_at posts p post at = get_or_from_slice_get (own_history posts) p (own_proces
 pub process_past : (history : List Process) (p : ℕ) → length history ≤ p → process_at history p ≡ fresh
 process_past history p past = get_or_past history p fresh past
 
-own_none : (posts : List PostView) (p : ℕ) → length posts ≤ p → process_at (own_history posts) p ≡ fresh
+pub own_none : (posts : List PostView) (p : ℕ) → length posts ≤ p → process_at (own_history posts) p ≡ fresh
 own_none posts p past = (let l = length-map posts own_process in process_past (own_history posts) p (omega (arith, l, past)))
 
 fresh_fits : (n : ℕ) → IsProcess n fresh
@@ -41,20 +41,11 @@ pub rest_lost : (failed : Bool) (post : PostView) → IsPost post → (lost : Li
 rest_lost true post h = (h.reports.0, sym h.reports.1)
 rest_lost false post h = ([], sym (append-nil post.tape))
 
-sends_front : (xs ys : List Event) → sends xs ≤ sends (xs ++ ys)
+pub sends_front : (xs ys : List Event) → sends xs ≤ sends (xs ++ ys)
 sends_front xs ys =
     let a = ap length (filter_map-append incarnation_of xs ys) in
     let b = length-append (incarnations_sent xs) (incarnations_sent ys) in
     omega (arith, a, b)
-
--- workers that are back together, one for each process of their collector
-pub record AreBack (v : CollectorView) (posts : List PostView) : Type 0 where
-  pub collects : IsCollector v
-  pub lined : AreLined v posts
-  pub known : ArePosts posts
-  pub order : AreInOrder posts
-  pub whole : length posts ≡ length v.processes
-  pub fit : IsFitFifo (own_history posts)
 
 pub back_of : (v w : CollectorView) (posts : List PostView) → v ≡ w → IsCollector v → AreLined w posts
     → ArePosts posts → AreInOrder posts → length posts ≡ length v.processes
@@ -75,10 +66,10 @@ module _ (v : CollectorView) (posts : List PostView) (back : AreBack v posts) wh
   tape_there : (p : ℕ) (post : PostView) → slice_get posts p ≡ Some post → tape_at v.opening p ≡ opening_tape post
   tape_there p post at = ap (λ o. tape_at o p) (sym ((back.lined p post at).0)) ∙ ap (tape_at post.opening) (sym ((back.order p post at).0))
 
-  incarnation_there : (p : ℕ) (post : PostView) → slice_get posts p ≡ Some post → incarnation_at v.processes p ≡ incarnation_of_post post
+  pub incarnation_there : (p : ℕ) (post : PostView) → slice_get posts p ≡ Some post → incarnation_at v.processes p ≡ incarnation_of_post post
   incarnation_there p post at = back.collects.incarnations p ∙ (ap (λ o. incarnation_at o p) (sym ((back.lined p post at).0)) ∙ ap (incarnation_at post.opening) (sym ((back.order p post at).0)))
 
-  seen_there : (p : ℕ) (post : PostView) → slice_get posts p ≡ Some post → tape_at v.processes p ≡ opening_tape post ++ items_at v.lines p
+  pub seen_there : (p : ℕ) (post : PostView) → slice_get posts p ≡ Some post → tape_at v.processes p ≡ opening_tape post ++ items_at v.lines p
   seen_there p post at = back.collects.tapes p ∙ ap (λ t. t ++ items_at v.lines p) (tape_there p post at)
 
   pub ready_of : AreReady v.processes v.lines posts

@@ -1,22 +1,23 @@
 -- Reports keep what holds of a worker and of a collector.
 use Rattle.std.proofs.Common.{zero, suc, ◌≡◌, ◌≢◌, ◌∙◌, ◌+◌, ◌-◌, ◌<◌, ◌≤◌, ◌⊎◌, ◌++◌, ◌∷◌, [], ℕ, List, length, refl, sym, ap, inl, inr, arith, subst}
-use Rattle.std.specs.Prelude.{Result, Err}
-use Rattle.std.proofs.lemmas.Bool.{cases_eq}
-use Rattle.std.proofs.lemmas.List.{append_assoc, append-nil, length_push, length-set, get_or-set_same, get_or-set_other}
+use Rattle.std.specs.Prelude.{Option}
+use Rattle.std.proofs.lemmas.Bool.{cases_eq, cases_lt}
+use Rattle.std.proofs.lemmas.List.FromFn.{length-map-range_with_len, get_or-map-range_with_len}
+use Rattle.std.proofs.lemmas.Option.{slice_get_past}
+use Rattle.std.proofs.lemmas.List.{append_assoc, get_or_past, append-nil, length_push, length-set, get_or-set_same, get_or-set_other}
 use Rattle.line_tape.specs.declared.events.Event.{Event}
-use Rattle.line_tape.specs.declared.limits.TheConstants.{MOST_EVENTS}
-use Rattle.line_tape.specs.Event.{HasLongState, NamesBelow}
-use Rattle.line_catalogue.specs.Agreement.{AgreesNext}
-use Rattle.line_tape.specs.History.{Process, fresh, tape_at, incarnation_at, with_event}
+use Rattle.line_tape.specs.History.{Process, fresh, process_at, tape_at, incarnation_at, with_event}
 use Rattle.line_tape.proofs.EventLemmas.{tape_same, tape_other}
 use mathlib.Core.List.{IsPrefix}
-use Rattle.line_catalogue.specs.declared.refusals.AddError.{AddError}
-use Rattle.line_catalogue.specs.declared.refusals.AddError.TheVariants.{OutOfMemory, NoSuchProcess, StateTooLong, TapeFull, NamesDisagree}
-use Rattle.line_posts.specs.Ends.{End, items_at, ring_at, row_at, with_item, AreFresh}
-use Rattle.line_posts.proofs.EndLemmas.{length_item, items_same, items_other, prefix_behind, prefix_self, prefix_then, ring_item}
+use Rattle.line_posts.specs.Ends.{End, items_at, items_of, ring_at, row_at, with_item, AreFresh}
+use Rattle.line_posts.proofs.EndLemmas.{items_same, items_other, prefix_behind, prefix_self, prefix_then, ring_item}
 use Rattle.line_tape.specs.Views.{MarksView}
-use Rattle.line_posts.specs.Collected.{collector_of, passed_count, CollectorView}
-use Rattle.line_posts.specs.Collected.{HasCollectedMore, HasLeft, HasOnlyLooked, IsCollector, IsNotAdded, ShowsNone}
+use Rattle.line_posts.specs.Collected.{passed_count, CollectorView}
+use Rattle.line_posts.specs.Collected.{HasCollectedMore, HasLeft, HasOnlyLooked, IsCollector, ShowsNone}
+use Rattle.line_posts.specs.Forgotten.{taken_history}
+use Rattle.line_posts.specs.Kept.{collector_at, floor_of, whole_marks}
+use Rattle.line_posts.specs.declared.forgetting.Forgotten.{Forgotten}
+use Rattle.line_cuts.proofs.StepCuts.{same_history}
 use Rattle.line_posts.specs.Extension.{Extends}
 
 incarnation_kept : (history : List Process) (p q : ℕ) (event : Event) → p < length history → incarnation_at (with_event history p event) q ≡ incarnation_at history q
@@ -25,32 +26,68 @@ incarnation_kept history p q event lt = elim (cases_eq q p) [
   | inr ne ↦ ap (λ (t : Process). t.incarnation) (get_or-set_other history p q _ fresh ne)
 ]
 
-pub collect_keeps : (c : CollectorView) (p : ℕ) (event : Event) (processes : List Process) (marks : MarksView) (lines : List (End Event)) (seen : List (List Event)) → IsCollector c → p < length c.opening
-    → processes ≡ with_event c.processes p event → lines ≡ with_item c.lines p event → IsCollector (record c { processes = processes; marks = marks; lines = lines; seen = seen })
-collect_keeps c p event processes marks lines seen h lt ep el =
-    let n = h.count in
-    let m = h.line_count in
-    let within : p < length c.processes = omega (arith, lt, n) in
-    rw (ep, el) (record {
-      count = length-set c.processes p _ ∙ h.count;
-      line_count = length_item c.lines p event ∙ h.line_count;
-      tapes = λ q. elim (cases_eq q p) [
-        | inl e ↦ tape_same c.processes p event q within e ∙ (ap (λ t. t ++ event ∷ []) (h.tapes q)
-            ∙ (append_assoc (tape_at c.opening q) (items_at c.lines q) (event ∷ [])
-            ∙ ap (λ t. tape_at c.opening q ++ t) (sym (items_same c.lines p q event (omega (arith, lt, m)) e))))
-        | inr ne ↦ tape_other c.processes p event q ne ∙ (h.tapes q ∙ ap (λ t. tape_at c.opening q ++ t) (sym (items_other c.lines p q event ne)))
-      ];
-      incarnations = λ q. incarnation_kept c.processes p q event within ∙ h.incarnations q;
-    })
+-- what the history of what was taken has of a process
+pub taken_at : (opening : List Process) (lines : List (End Event)) (p : ℕ) → p < length opening → process_at (taken_history opening lines) p ≡ record (process_at opening p) { tape = tape_at opening p ++ items_at lines p }
+taken_at opening lines p within = get_or-map-range_with_len (λ q. record (process_at opening q) { tape = tape_at opening q ++ items_at lines q }) 0 (length opening) p p fresh within (omega arith)
+
+pub taken_long : (opening : List Process) (lines : List (End Event)) → length (taken_history opening lines) ≡ length opening
+taken_long opening lines = length-map-range_with_len (λ q. record (process_at opening q) { tape = tape_at opening q ++ items_at lines q }) 0 (length opening)
+
+taken_past : (opening : List Process) (lines : List (End Event)) (p : ℕ) → length opening ≤ p → process_at (taken_history opening lines) p ≡ process_at opening p
+taken_past opening lines p past = get_or_past (taken_history opening lines) p fresh (omega (arith, past, taken_long opening lines)) ∙ sym (get_or_past opening p fresh past)
+
+-- one report more
+pub taken_more : (opening : List Process) (lines : List (End Event)) (p : ℕ) (event : Event) → p < length opening → length lines ≡ length opening → taken_history opening (with_item lines p event) ≡ with_event (taken_history opening lines) p event
+taken_more opening lines p event lt long =
+    let old : List Process = taken_history opening lines in
+    let new : Process = record (process_at old p) { tape = tape_at old p ++ event ∷ [] } in
+    same_history (taken_history opening (with_item lines p event)) (with_event old p event)
+    (taken_long opening (with_item lines p event) ∙ sym (taken_long opening lines) ∙ sym (length-set old p new))
+    (λ q h.
+    let within : q < length opening = omega (arith, h, taken_long opening (with_item lines p event)) in
+    taken_at opening (with_item lines p event) q within
+    ∙ elim (cases_eq q p) [
+      | inl same ↦
+          ap (λ (es : List Event). record { incarnation = (process_at opening q).incarnation; tape = tape_at opening q ++ es }) (items_same lines p q event (omega (arith, lt, long)) same)
+          ∙ ap (λ (es : List Event). record { incarnation = (process_at opening q).incarnation; tape = es }) (sym (append_assoc (tape_at opening q) (items_at lines q) (event ∷ [])))
+          ∙ ap (λ (t : Process). record t { tape = t.tape ++ event ∷ [] }) (sym (taken_at opening lines q within))
+          ∙ ap (λ (v : ℕ). record (process_at old v) { tape = tape_at old v ++ event ∷ [] }) same
+          ∙ sym (ap (process_at (with_event old p event)) same ∙ get_or-set_same old p new fresh (omega (arith, lt, taken_long opening lines)))
+      | inr apart ↦
+          ap (λ (es : List Event). record { incarnation = (process_at opening q).incarnation; tape = tape_at opening q ++ es }) (items_other lines p q event apart)
+          ∙ sym (taken_at opening lines q within)
+          ∙ sym (get_or-set_other old p q new fresh apart)
+    ])
+
+-- none
+pub taken_fresh : (opening : List Process) (lines : List (End Event)) → AreFresh lines → taken_history opening lines ≡ opening
+taken_fresh opening lines none =
+    same_history (taken_history opening lines) opening (taken_long opening lines)
+    (λ p h.
+    taken_at opening lines p (omega (arith, h, taken_long opening lines))
+    ∙ ap (λ (es : List Event). record { incarnation = (process_at opening p).incarnation; tape = es }) (ap (λ (es : List Event). tape_at opening p ++ es) (none p) ∙ append-nil (tape_at opening p)))
+
+-- what is known of a collector at any time
+pub collects : (opening : List Process) (forgotten : Option Forgotten) (marks : MarksView) (lines : List (End Event)) (seen : List (List Event)) (capacity : ℕ) → length lines ≡ length opening
+    → IsCollector (collector_at opening forgotten marks lines seen capacity)
+collects opening forgotten marks lines seen capacity long = record {
+  count = taken_long opening lines;
+  line_count = long;
+  tapes = λ p. elim (cases_lt p (length opening)) [
+    | inl within ↦ ap (λ (t : Process). t.tape) (taken_at opening lines p within)
+    | inr past ↦
+        ap (λ (t : Process). t.tape) (taken_past opening lines p past)
+        ∙ sym (append-nil (tape_at opening p))
+        ∙ ap (λ (es : List Event). tape_at opening p ++ es) (sym (ap items_of (slice_get_past lines p (omega (arith, past, long)))))
+  ];
+  incarnations = λ p. elim (cases_lt p (length opening)) [
+    | inl within ↦ ap (λ (t : Process). t.incarnation) (taken_at opening lines p within)
+    | inr past ↦ ap (λ (t : Process). t.incarnation) (taken_past opening lines p past)
+  ];
+}
 
 pub same_first : {X : Type 0} (x y : X) (xs ys : List X) → x ∷ xs ≡ y ∷ ys → x ≡ y
 same_first x y xs ys e = cc e
-
--- what may be added still may, where neither history nor event changed
-pub addable_still : (h h' : List Process) (p : ℕ) (e e' : Event) → h' ≡ h → e' ≡ e
-    → (p < length h) × NamesBelow (length h) e × (HasLongState e → ⊥) × (length (tape_at h p) ≢ MOST_EVENTS) × AgreesNext h p e
-    → (p < length h') × NamesBelow (length h') e' × (HasLongState e' → ⊥) × (length (tape_at h' p) ≢ MOST_EVENTS) × AgreesNext h' p e'
-addable_still h h' p e e' eh ee t = rw (eh, ee) t
 
 -- one report more
 length_passed : (lines : List (End Event)) (p : ℕ) (event : Event) → p < length lines → passed_count (with_item lines p event) ≡ passed_count lines + 1
@@ -63,6 +100,7 @@ more_self c = record {
   opening = refl;
   marks = refl;
   capacity = refl;
+  floor = refl;
   count = refl;
   incarnations = λ p. refl;
   rings = λ p. refl;
@@ -75,6 +113,7 @@ more_seen a b (e, seen) = record {
   opening = ap (λ (v : CollectorView). v.opening) e;
   marks = ap (λ (v : CollectorView). v.marks) e;
   capacity = ap (λ (v : CollectorView). v.capacity) e;
+  floor = ap (λ (v : CollectorView). v.floor) e;
   count = ap (λ (v : CollectorView). length v.processes) e;
   incarnations = λ p. ap (λ (v : CollectorView). incarnation_at v.processes p) e;
   rings = λ p. ap (λ (v : CollectorView). ring_at v.lines p) e;
@@ -98,6 +137,7 @@ more_then a b c h k = record {
   opening = k.opening ∙ h.opening;
   marks = k.marks ∙ h.marks;
   capacity = k.capacity ∙ h.capacity;
+  floor = k.floor ∙ h.floor;
   count = k.count ∙ h.count;
   incarnations = λ p. k.incarnations p ∙ h.incarnations p;
   rings = λ p. k.rings p ∙ h.rings p;
@@ -127,6 +167,7 @@ more_one c p event seen h lt first others =
         opening = refl;
         marks = refl;
         capacity = refl;
+        floor = refl;
         count = length-set c.processes p _;
         incarnations = λ q. incarnation_kept c.processes p q event within;
         rings = λ q. ring_item c.lines p q event;
@@ -157,44 +198,25 @@ more_is now old new p event v e h lt first others =
     let count : passed_count new.lines ≡ passed_count old.lines + 1 = ap (λ (t : CollectorView). passed_count t.lines) e ∙ both.1 in
     (subst (λ (t : CollectorView). HasCollectedMore t new) v more, subst (λ (t : CollectorView). passed_count new.lines ≡ passed_count t.lines + 1) v count)
 
--- the cause of a refusal of the catalogue
-pub not_added : {T : Type 0} (history : List Process) (p : ℕ) (event : Event) (why : AddError) (r : Result T AddError) → r ≡ Err why → p < length history
-    → (r ≡ Err NoSuchProcess → (length history ≤ p) ⊎ (NamesBelow (length history) event → ⊥))
-    → (r ≡ Err StateTooLong → (p < length history) × NamesBelow (length history) event × HasLongState event)
-    → (r ≡ Err TapeFull → (p < length history) × NamesBelow (length history) event × (HasLongState event → ⊥) × (length (tape_at history p) ≡ MOST_EVENTS))
-    → (r ≡ Err NamesDisagree → (p < length history) × NamesBelow (length history) event × (HasLongState event → ⊥) × (length (tape_at history p) ≢ MOST_EVENTS) × (AgreesNext history p event → ⊥))
-    → (r ≢ Err OutOfMemory) → IsNotAdded history p event why
-not_added history p event NoSuchProcess r is lt a b c d never = elim (a is) [ inl past ↦ absurd (omega (arith, past, lt)) | inr unnamed ↦ unnamed ]
-not_added history p event StateTooLong r is lt a b c d never = (let t = b is in (t.1, t.2))
-not_added history p event TapeFull r is lt a b c d never = (let t = c is in (t.1, t.2, t.3))
-not_added history p event NamesDisagree r is lt a b c d never = (let t = d is in (t.1, t.2, t.3, t.4))
-not_added history p event OutOfMemory r is lt a b c d never = absurd (never is)
-
--- a collector at the opening of a generation
-pub collects : (opening processes : List Process) (marks : MarksView) (lines : List (End Event)) (seen : List (List Event)) (capacity : ℕ) → opening ≡ processes → length lines ≡ length processes → AreFresh lines
-    → IsCollector (collector_of opening processes marks lines seen capacity)
-collects opening processes marks lines seen capacity e count fresh = rw e (record {
-  count = refl;
-  line_count = count;
-  tapes = λ p. sym (append-nil (tape_at processes p)) ∙ ap (λ t. tape_at processes p ++ t) (sym (fresh p));
-  incarnations = λ p. refl;
-})
-
 -- a collector whose parts are told, after a look and after a report
-module _ (now : CollectorView) (opening processes : List Process) (marks : MarksView) (lines : List (End Event)) (seen : List (List Event)) (capacity : ℕ) (is : collector_of opening processes marks lines seen capacity ≡ now) where
-  pub looked_only : (processes' : List Process) (marks' : MarksView) (lines' : List (End Event)) (seen' : List (List Event)) → processes' ≡ processes → marks' ≡ marks → lines' ≡ lines
-      → ((p : ℕ) → IsPrefix (row_at seen p) (row_at seen' p)) → HasOnlyLooked now (collector_of opening processes' marks' lines' seen' capacity)
-  looked_only processes' marks' lines' seen' ep em el s =
-      subst (λ (t : CollectorView). HasOnlyLooked t (collector_of opening processes' marks' lines' seen' capacity)) is (rw (ep, em, el) (refl, s))
+module _ (now : CollectorView) (opening : List Process) (forgotten : Option Forgotten) (marks : MarksView) (lines : List (End Event)) (seen : List (List Event)) (capacity : ℕ) (is : collector_at opening forgotten marks lines seen capacity ≡ now) where
+  pub looked_only : (marks' : MarksView) (lines' : List (End Event)) (seen' : List (List Event)) → marks' ≡ marks → lines' ≡ lines
+      → ((p : ℕ) → IsPrefix (row_at seen p) (row_at seen' p)) → HasOnlyLooked now (collector_at opening forgotten marks' lines' seen' capacity)
+  looked_only marks' lines' seen' em el s =
+      subst (λ (t : CollectorView). HasOnlyLooked t (collector_at opening forgotten marks' lines' seen' capacity)) is (rw (em, el) (refl, s))
 
   pub left_others : (p : ℕ) (lines' : List (End Event)) (seen' : List (List Event)) → ((q : ℕ) → (q ≡ p → ⊥) → items_at lines' q ≡ items_at lines q) → ((q : ℕ) → (q ≡ p → ⊥) → row_at seen' q ≡ row_at seen q)
       → (q : ℕ) → (q ≡ p → ⊥) → (items_at lines' q ≡ items_at now.lines q) × (row_at seen' q ≡ row_at now.seen q)
   left_others p lines' seen' hi hs q ne = subst (λ (t : CollectorView). (items_at lines' q ≡ items_at t.lines q) × (row_at seen' q ≡ row_at t.seen q)) is (hi q ne, hs q ne)
 
-  pub collected_is : (p : ℕ) (event : Event) (processes' : List Process) (marks' : MarksView) (lines' : List (End Event)) (seen' : List (List Event)) → processes' ≡ with_event processes p event → marks' ≡ marks → lines' ≡ with_item lines p event
-      → collector_of opening processes' marks' lines' seen' capacity ≡ collected now p event seen'
-  collected_is p event processes' marks' lines' seen' ep em el =
-      subst (λ (t : CollectorView). collector_of opening processes' marks' lines' seen' capacity ≡ collected t p event seen') is (rw (ep, em, el) refl)
+  pub collected_is : (p : ℕ) (event : Event) (marks' : MarksView) (lines' : List (End Event)) (seen' : List (List Event)) → p < length opening → length lines ≡ length opening → marks' ≡ marks → lines' ≡ with_item lines p event
+      → collector_at opening forgotten marks' lines' seen' capacity ≡ collected now p event seen'
+  collected_is p event marks' lines' seen' lt long em el =
+      let more : taken_history opening lines' ≡ with_event (taken_history opening lines) p event = ap (taken_history opening) el ∙ taken_more opening lines p event lt long in
+      subst (λ (t : CollectorView). collector_at opening forgotten marks' lines' seen' capacity ≡ collected t p event seen') is
+      (ap (λ (h : List Process). let v : CollectorView = record { opening = opening; processes = h; marks = whole_marks forgotten marks'; lines = lines'; seen = seen'; capacity = capacity; floor = floor_of forgotten } in v) more
+      ∙ ap (λ (m : MarksView). let v : CollectorView = record { opening = opening; processes = with_event (taken_history opening lines) p event; marks = whole_marks forgotten m; lines = lines'; seen = seen'; capacity = capacity; floor = floor_of forgotten } in v) em
+      ∙ ap (λ (l : List (End Event)). let v : CollectorView = record { opening = opening; processes = with_event (taken_history opening lines) p event; marks = whole_marks forgotten marks; lines = l; seen = seen'; capacity = capacity; floor = floor_of forgotten } in v) el)
 
 pub left_then : (a b c : CollectorView) (q : ℕ) → HasLeft a q b → HasLeft b q c → HasLeft a q c
 left_then a b c q h k = (k.0 ∙ h.0, k.1 ∙ h.1)

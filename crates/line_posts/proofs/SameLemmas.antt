@@ -14,7 +14,7 @@ use Rattle.line_posts.specs.declared.receiving.Received.{Received}
 use Rattle.line_posts.specs.declared.receiving.Received.TheVariants.{Message, Marked}
 use Rattle.line_posts.proofs.MarkerLemmas.{ring_others}
 use Rattle.line_posts.specs.Posts.{sent_by, PostView}
-use Rattle.line_posts.specs.Collected.{CollectorView, HasCollectedMore}
+use Rattle.line_posts.specs.Collected.{CollectorView, HasCollectedMore, HasForgotten}
 use Rattle.line_posts.specs.Generations.{AreLined, AreLinkedTwo, AreSamePosts, IsGeneration}
 use Rattle.line_posts.specs.Generations.{IsSamePost}
 
@@ -126,6 +126,10 @@ lined_more collector later posts h lined i post at = (let l = lined i post at in
 
 pub lined_last : (collector later : CollectorView) (old new : List PostView) → HasCollectedMore collector later → AreSamePosts old new → AreLined collector old → AreLined later new
 lined_last collector later old new h s lined = lined_more collector later new h (lined_kept collector old new s lined)
+
+-- a collector that let something go has the ends that it had
+pub lined_forgotten : (collector later : CollectorView) (posts : List PostView) → HasForgotten collector later → AreLined collector posts → AreLined later posts
+lined_forgotten collector later posts h lined = subst (λ (v : CollectorView). AreLined v posts) (sym h.new_is) lined
 
 pub same_posts_then : (a b c : List PostView) → AreSamePosts a b → AreSamePosts b c → AreSamePosts a c
 same_posts_then a b c h k = record {

@@ -1,7 +1,6 @@
 -- What contracts see of a collector, and what holds of it through a generation.
-use Rattle.std.specs.Prelude.{◌≡◌, ◌≢◌, ◌+◌, ◌<◌, ℕ, Bool, IsTrue, List, ◌∷◌, [], ◌++◌, length}
+use Rattle.std.specs.Prelude.{◌≡◌, ◌≢◌, ◌+◌, ℕ, List, ◌∷◌, [], ◌++◌, length, Option, Some, None}
 use mathlib.Core.List.{IsPrefix}
-use Rattle.line_names.specs.Sets.{is_member}
 use Rattle.line_tape.specs.declared.events.Event.{Event}
 use Rattle.line_tape.specs.declared.limits.TheConstants.{MOST_EVENTS}
 use Rattle.line_tape.specs.Event.{HasLongState, NamesBelow}
@@ -12,11 +11,15 @@ use Rattle.line_catalogue.specs.declared.refusals.AddError.{AddError}
 use Rattle.line_catalogue.specs.declared.refusals.AddError.TheVariants.{OutOfMemory, NoSuchProcess}
 use Rattle.line_catalogue.specs.declared.refusals.AddError.TheVariants.{StateTooLong, TapeFull}
 use Rattle.line_catalogue.specs.declared.refusals.AddError.TheVariants.{NamesDisagree}
+use Rattle.line_cuts.specs.Cuts.{Floor}
+use Rattle.line_cuts.specs.Floors.{LacksNumbers}
 use Rattle.line_posts.specs.Ends.{End, items_at, ring_at, row_at, with_item}
+use Rattle.line_posts.specs.Forgotten.{floor_after, history_kept, kept_marks, IsLiveFloor}
+use Rattle.line_posts.specs.Forgotten.{ReceivesGone}
 
 -- a collector: the history that its generation opened with, what it has collected, the marks of
 -- damage that it was given, its ends of the report lines, what it has seen on each of these and not
--- taken, and the capacity of a ring
+-- taken, the capacity of a ring, and the floor that all else was let go before, where some was
 pub record CollectorView : Type 0 where
   pub opening : List Process
   pub processes : List Process
@@ -24,8 +27,9 @@ pub record CollectorView : Type 0 where
   pub lines : List (End Event)
   pub seen : List (List Event)
   pub capacity : ℕ
+  pub floor : Option Floor
 
--- the collector with these parts
+-- the collector with these parts, which let nothing go
 abbrev pub collector_of : List Process → List Process → MarksView → List (End Event)
     → List (List Event) → ℕ → CollectorView
 collector_of opening processes marks lines seen capacity = record {
@@ -35,6 +39,7 @@ collector_of opening processes marks lines seen capacity = record {
   lines = lines;
   seen = seen;
   capacity = capacity;
+  floor = None;
 }
 
 -- of each worker it has the opening tape, and then what it popped from the worker's report line
@@ -79,6 +84,7 @@ pub record HasCollectedMore (old new : CollectorView) : Type 0 where
   pub opening : new.opening ≡ old.opening
   pub marks : new.marks ≡ old.marks
   pub capacity : new.capacity ≡ old.capacity
+  pub floor : new.floor ≡ old.floor
   pub count : length new.processes ≡ length old.processes
   pub incarnations : (p : ℕ)
       → incarnation_at new.processes p ≡ incarnation_at old.processes p
@@ -88,25 +94,41 @@ pub record HasCollectedMore (old new : CollectorView) : Type 0 where
       × (items_at new.lines p ≡ items_at old.lines p ++ more)
       × IsPrefix (row_at old.seen p) (more ++ row_at new.seen p)
 
+-- with the event at process p the history agrees too, and it receives nothing that was let go
+pub record IsWellNamed (floor : Option Floor) (history : List Process) (p : ℕ) (event : Event)
+    : Type 0 where
+  pub agrees : AgreesNext history p event
+  pub left : ReceivesGone floor event → ⊥
+
 -- why an event is not added to the tape of process p: this cause holds, and none before it; out of
--- memory comes last
-abbrev pub IsNotAdded : List Process → ℕ → Event → AddError → Type 0
-IsNotAdded history p event NoSuchProcess = NamesBelow (length history) event → ⊥
-IsNotAdded history p event StateTooLong = NamesBelow (length history) event × HasLongState event
-IsNotAdded history p event TapeFull = NamesBelow (length history) event
-    × (HasLongState event → ⊥) × (length (tape_at history p) ≡ MOST_EVENTS)
-IsNotAdded history p event NamesDisagree = NamesBelow (length history) event
-    × (HasLongState event → ⊥) × (length (tape_at history p) ≢ MOST_EVENTS)
-    × (AgreesNext history p event → ⊥)
-IsNotAdded history p event OutOfMemory = NamesBelow (length history) event
-    × (HasLongState event → ⊥) × (length (tape_at history p) ≢ MOST_EVENTS)
-    × AgreesNext history p event
+-- memory comes last. The tape that is kept may be full
+abbrev pub IsNotAdded : Option Floor → List Process → ℕ → Event → AddError → Type 0
+IsNotAdded floor history p event NoSuchProcess = NamesBelow (length history) event → ⊥
+IsNotAdded floor history p event StateTooLong = NamesBelow (length history) event
+    × HasLongState event
+IsNotAdded floor history p event TapeFull = NamesBelow (length history) event
+    × (HasLongState event → ⊥) × (length (tape_at (history_kept floor history) p) ≡ MOST_EVENTS)
+IsNotAdded floor history p event NamesDisagree = NamesBelow (length history) event
+    × (HasLongState event → ⊥) × (length (tape_at (history_kept floor history) p) ≢ MOST_EVENTS)
+    × (IsWellNamed floor history p event → ⊥)
+IsNotAdded floor history p event OutOfMemory = NamesBelow (length history) event
+    × (HasLongState event → ⊥) × (length (tape_at (history_kept floor history) p) ≢ MOST_EVENTS)
+    × IsWellNamed floor history p event
 
 -- the line of process p shows a report that is not taken, for this cause
 abbrev pub IsNotTaken : CollectorView → ℕ → AddError → Type 0
 IsNotTaken collector p why = (event : Event) × (rest : List Event)
-    × (row_at collector.seen p ≡ event ∷ rest) × IsNotAdded collector.processes p event why
+    × (row_at collector.seen p ≡ event ∷ rest)
+    × IsNotAdded collector.floor collector.processes p event why
 
--- each of the first n processes failed
-abbrev pub HaveAllFailed : ℕ → List Bool → Type 0
-HaveAllFailed n failed = (q : ℕ) → q < n → IsTrue (is_member failed q)
+-- the collector let go what stands before such a floor of what it kept; all else is as it was
+pub record HasForgotten (old new : CollectorView) : Type 0 where
+  pub later : Floor
+  pub at : IsLiveFloor (history_kept old.floor old.processes) (kept_marks old.floor old.marks) later
+  pub new_is : new ≡ record old { floor = Some (floor_after old.floor later) }
+
+-- nothing is let go, since more of a process would be in all than there are numbers for
+pub record IsShortOfNumbers (old : CollectorView) : Type 0 where
+  pub later : Floor
+  pub at : IsLiveFloor (history_kept old.floor old.processes) (kept_marks old.floor old.marks) later
+  pub spent : LacksNumbers (floor_after old.floor later)

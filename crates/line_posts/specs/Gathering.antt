@@ -1,17 +1,19 @@
 -- The steps of a gathering: rings are compared, and then events are added.
 use Rattle.std.specs.Prelude.{◌≡◌, ◌<◌, ◌≤◌, ℕ, List, ◌++◌, length, map, slice_get}
-use Rattle.std.specs.Prelude.{slice_index_or, Bool, Some}
+use Rattle.std.specs.Prelude.{slice_index_or, All, Bool, Some}
 use Rattle.std.specs.VecDeque.{deque_items}
 use mathlib.Core.List.{IsPrefix}
 use Rattle.std.specs.declared.collections.VecDeque.{VecDeque}
 use Rattle.std.specs.declared.alloc.Global.{Global}
 use Rattle.line_names.specs.Sets.{is_member}
 use Rattle.line_tape.specs.declared.events.Event.{Event}
-use Rattle.line_tape.specs.Event.{sends, Holds}
+use Rattle.line_tape.specs.Event.{sends, Holds, NamesBelow}
 use Rattle.line_tape.specs.Fit.{IsFitFifo}
 use Rattle.line_tape.specs.History.{Process, process_at, tape_at, incarnation_at, IsProcess, IsTape}
 use Rattle.line_posts.specs.Ends.{End, items_at, ring_at, row_at}
-use Rattle.line_posts.specs.Gathered.{gathered_tape}
+use Rattle.line_posts.specs.Collected.{CollectorView, IsCollector}
+use Rattle.line_posts.specs.Gathered.{gathered_tape, AreGathered}
+use Rattle.line_posts.specs.Generations.{own_history, AreInOrder, AreLined}
 use Rattle.line_posts.specs.Posts.{PostView, IsPost, opening_tape}
 
 -- each of these workers has what holds of a worker at any time
@@ -40,6 +42,34 @@ pub record IsBetween (gathered own : List Process) : Type 0 where
   pub begins : (p : ℕ) → IsPrefix (tape_at gathered p) (tape_at own p)
   pub present : (p k inc : ℕ) → sends (tape_at gathered p) ≤ k → Holds (tape_at own p) inc k
       → inc ≡ incarnation_at own p
+
+-- worker p, which has the other end of report line p, and names the first n processes alone
+pub record IsAtLine (n : ℕ) (lines : List (End Event)) (p : ℕ) (post : PostView) : Type 0 where
+  pub within : p < length lines
+  pub ring : Some post.line.ring ≡ ring_at lines p
+  pub named : All (NamesBelow n) post.tape
+
+-- each worker does, by its number
+abbrev pub AreAtLines : ℕ → List (End Event) → List PostView → Type 0
+AreAtLines n lines posts = (p : ℕ) (post : PostView) → slice_get posts p ≡ Some post
+    → IsAtLine n lines p post
+
+-- workers that are back together, one for each process of their collector
+pub record AreBack (collector : CollectorView) (posts : List PostView) : Type 0 where
+  pub collects : IsCollector collector
+  pub lined : AreLined collector posts
+  pub known : ArePosts posts
+  pub order : AreInOrder posts
+  pub whole : length posts ≡ length collector.processes
+  pub fit : IsFitFifo (own_history posts)
+
+-- the gathered history has of each worker what is gathered of it, which begins with what was taken
+-- of it
+pub record AreGatheredOnward (failed : List Bool) (lines : List (End Event)) (posts : List PostView)
+    (gathered : List Process) : Type 0 where
+  pub gathered_is : AreGathered failed posts gathered
+  pub begins : (p : ℕ) (post : PostView) → slice_get posts p ≡ Some post
+      → IsPrefix (opening_tape post ++ items_at lines p) (tape_at gathered p)
 
 -- the items of each queue
 abbrev pub rows_of : {X : Type 0} → List (VecDeque X Global) → List (List X)

@@ -7,7 +7,9 @@ pub mod Markers
 pub mod Reports
 pub mod Refusals
 pub mod Extension
+pub mod Forgotten
 pub mod Collected
+pub mod Kept
 pub mod Generations
 pub mod Openings
 pub mod Fleets

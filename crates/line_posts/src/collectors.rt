@@ -1,6 +1,7 @@
 //! The collector: what the workers have reported so far.
 ghost use Rattle.std.specs.Prelude.{◌≡◌, ◌≢◌, ◌<◌, ◌≤◌, ◌+◌, ◌⊎◌, ℕ, Bool, List, if◌then◌else◌};
-ghost use Rattle.std.specs.Prelude.{IfErr, IfOk, MatchBool, OnErr, length, vec_len};
+ghost use Rattle.std.specs.Prelude.{IfErr, IfOk, MatchBool, MatchOption, None, OnErr, OnOk, Some};
+ghost use Rattle.std.specs.Prelude.{length, vec_len};
 ghost use Rattle.line_tape.specs.Chain.{IsChain};
 ghost use Rattle.line_tape.specs.History.{Process};
 ghost use Rattle.line_tape.specs.Line.{IsConsistent};
@@ -10,13 +11,17 @@ ghost use Rattle.line_posts.specs.Ends.{in_ends, items_at, known_rows, AreFresh}
 ghost use Rattle.line_posts.specs.Extension.{Extends};
 ghost use Rattle.line_posts.specs.Collected.{collector_of, passed_count, HasCollected};
 ghost use Rattle.line_posts.specs.Collected.{HasCollectedMore};
-ghost use Rattle.line_posts.specs.Collected.{HasLeft, HasOnlyLooked, HaveAllFailed, IsCollector};
-ghost use Rattle.line_posts.specs.Collected.{IsNotTaken, ShowsNone};
+ghost use Rattle.line_posts.specs.Collected.{HasLeft, HasOnlyLooked, IsCollector};
+ghost use Rattle.line_posts.specs.Collected.{HasForgotten, IsNotTaken, IsShortOfNumbers, ShowsNone};
+ghost use Rattle.line_posts.specs.Forgotten.{history_kept, HaveAllFailed};
 
 use crate::ends::{front_at, look_at, take_at};
+use crate::forgetting::{Forgotten, add_next, everyone, let_go, plan_kept, test_next};
 use crate::keeping::keep_planned;
+use crate::refusals::ForgetWhy;
 use line_catalogue::{AddError, Catalogue};
-use line_names::{MOST_PROCESSES, ProcId, ProcSet};
+use line_cuts::OwnedFloor;
+use line_names::{MOST_PROCESSES, ProcId};
 use line_plan::{Plan, PlanError};
 use line_tape::{Event, History, Marks};
 use rtrb::Consumer;
@@ -40,20 +45,26 @@ pub struct Collector {
     pub(crate) capacity: usize,
     // How many more reports come before `take` plans to keep what is in transit.
     due: usize,
+    // What it let go, where it let something go: `catalogue` is then what is left.
+    pub(crate) forgotten: Option<Forgotten>,
 }
 
 impl Model for Collector {
+    ghost use Rattle.std.specs.Prelude.{◌≡◌};
     ghost use Rattle.line_posts.specs.Ends.{in_ends, known_rows};
-    ghost use Rattle.line_posts.specs.Collected.{collector_of, CollectorView, IsCollector};
+    ghost use Rattle.line_posts.specs.Collected.{CollectorView, IsCollector};
+    ghost use Rattle.line_posts.specs.Forgotten.{taken_history};
+    ghost use Rattle.line_posts.specs.Kept.{collector_at, IsKeptOf};
 
     ghost Value = { CollectorView };
 
-    ghost view = { λ c. collector_of c.opening.value.processes c.catalogue.processes
-        c.catalogue.marks (in_ends c.lines.items) (known_rows c.lines.items) c.capacity };
+    ghost view = { λ c. collector_at c.opening.value.processes c.forgotten c.catalogue.marks
+        (in_ends c.lines.items) (known_rows c.lines.items) c.capacity };
 
-    ghost invariant = { λ c. IsCollector (collector_of c.opening.value.processes
-        c.catalogue.processes c.catalogue.marks (in_ends c.lines.items)
-        (known_rows c.lines.items) c.capacity) };
+    ghost invariant = { λ c. IsCollector (collector_at c.opening.value.processes c.forgotten
+        c.catalogue.marks (in_ends c.lines.items) (known_rows c.lines.items) c.capacity)
+        × IsKeptOf c.forgotten (taken_history c.opening.value.processes (in_ends c.lines.items))
+        c.catalogue.processes c.catalogue.marks };
 }
 
 /// A collector at the opening of a generation.
@@ -76,43 +87,57 @@ pub(crate) fn open_collector(
         lines,
         capacity,
         due: REPORTS_BETWEEN,
+        forgotten: None,
     }
-}
-
-/// All processes below `n`.
-fn everyone(n: u32) -> ProcSet
-    requires { n ≤ MOST_PROCESSES }
-    ensures { HaveAllFailed n result }
-{
-    let mut all = ProcSet::empty();
-    for r in 0..n {
-        let p = ProcId::try_new(r, n).unwrap();
-        all = all.with(p);
-    }
-    all
 }
 
 impl Collector {
-    /// The history that was collected so far.
+    /// How many processes it has.
+    pub(crate) fn n(&self) -> u32
+        ensures value { result ≡ length self.now.opening }
+        ensures some { 1 ≤ result }
+        ensures few { result ≤ MOST_PROCESSES }
+    {
+        self.catalogue.n()
+    }
+
+    /// What is kept of the history that was collected so far: all of it, unless something was let
+    /// go, and then what is left at the floor, in names and numbers of its own.
     pub fn history(&self) -> &History
-        ensures value { result.now.processes ≡ self.now.processes }
+        ensures value { result.now.processes ≡ history_kept self.now.floor self.now.processes }
         ensures known { IsCollector self.now }
     {
         self.catalogue.history()
+    }
+
+    /// The floor that all else was let go before, counted from the beginning; none where nothing
+    /// was let go.
+    pub fn floor(&self) -> Option<&OwnedFloor>
+        ensures { MatchOption result (self.now.floor ≡ None)
+            (λ floor. self.now.floor ≡ Some floor.now) }
+    {
+        match &self.forgotten {
+            Some(forgotten) => Some(&forgotten.floor),
+            None => None,
+        }
     }
 
     /// The marks of damage that it was given: those of the history that its generation opened with.
     pub fn marks(&self) -> &Marks
         ensures { result.now ≡ self.now.marks }
     {
-        self.catalogue.marks()
+        match &self.forgotten {
+            Some(forgotten) => &forgotten.marks,
+            None => self.catalogue.marks(),
+        }
     }
 
     /// Plans the recovery line of what was collected so far, as if every process failed now.
     ///
     /// The line stays consistent in each later history. The call costs a plan, which looks at what
     /// is in transit at the line that was kept last, and at each send and each receipt between that
-    /// line and the planned one.
+    /// line and the planned one. Where something was let go, and a name of the whole would have no
+    /// number, it answers as where memory is out; no worker has so many events.
     pub fn plan_live(&self) -> Result<Plan, PlanError>
         ensures latest { IfOk result (λ plan. (failed : List Bool)
             × HaveAllFailed (length self.now.processes) failed
@@ -126,7 +151,30 @@ impl Collector {
             → Extends later self.now.processes → IsConsistent later plan.line) }
     {
         let failed = everyone(self.catalogue.n());
-        line_plan::plan(self.alloc, &self.catalogue, &failed)
+        plan_kept(self.alloc, &self.catalogue, &self.forgotten, &failed)
+    }
+
+    /// Lets go what no later plan can need: what stands before the line of `plan_live`, where each
+    /// process has a check or its initial state. The checks of the line stay, and what was sent and
+    /// received before it and is not in transit there goes; so do the markers of all rounds, which
+    /// no plan looks at. A process whose choice there is its initial state lets go none of its
+    /// checks.
+    ///
+    /// The other calls answer as if nothing was let go, but that `history` lends what is kept, that
+    /// a tape is full where what is kept of it is, and that `take` refuses a receipt of a message
+    /// that was let go, which its receiver has received already. What was let go stands on the
+    /// workers' own tapes still, from which `gather` makes the whole history.
+    ///
+    /// Where something is refused nothing has changed. The call costs a plan,
+    /// `line_cuts::floor_at` and `line_cuts::cut_catalogue`, and holds what is left twice while it
+    /// runs.
+    pub fn forget(&mut self) -> Result<(), ForgetWhy>
+        ensures done { OnOk result (HasForgotten self.old self.new) }
+        ensures same { OnErr result (self.new ≡ self.old) }
+        ensures spent { IfErr result (λ why. why ≢ ForgetWhy.OutOfMemory
+            → (why ≡ ForgetWhy.NoMoreNumbers) × IsShortOfNumbers self.old) }
+    {
+        let_go(self.alloc, &mut self.catalogue, &mut self.forgotten)
     }
 
     /// Plans and keeps what is in transit at the planned line, if enough reports were taken since
@@ -159,14 +207,19 @@ impl Collector {
         if !look_at(&mut self.lines, at) {
             return Ok(false);
         }
-        if let Err(why) = self.catalogue.test(p, front_at(&self.lines, at)) {
+        if let Err(why) = test_next(
+            &self.catalogue,
+            &self.forgotten,
+            p,
+            front_at(&self.lines, at),
+        ) {
             return Err(why);
         }
         if self.catalogue.reserve(p, 1).is_err() {
             return Err(AddError::OutOfMemory);
         }
         let event = take_at(&mut self.lines, at);
-        self.catalogue.append(p, event);
+        add_next(&mut self.catalogue, &self.forgotten, p, event);
         self.due = self.due.saturating_sub(1);
         Ok(true)
     }
@@ -218,7 +271,7 @@ impl Collector {
             × IsNotTaken self.new p why × ((q : ℕ) → q < p → ShowsNone self.new q)) }
     {
         self.keep_due();
-        let n = self.catalogue.n();
+        let n = self.n();
         let mut taken = 0;
         for p in 0..n {
             let at = ProcId::try_new(p, n).unwrap();

@@ -24,7 +24,12 @@ use std::collections::VecDeque;
 impl Post {
     /// How many events of the worker's tape are gathered: all or, where it failed, those that it
     /// reported. What lies on its report line is known from here on.
-    fn gathered_len(&mut self, lines: &mut Vec<Consumer<Event>>, p: usize, failed: bool) -> u32
+    pub(crate) fn gathered_len(
+        &mut self,
+        lines: &mut Vec<Consumer<Event>>,
+        p: usize,
+        failed: bool,
+    ) -> u32
         requires within { p < length lines.old.items }
         requires ring { Some self.old.line.ring ≡ ring_at (in_ends lines.old.items) p }
         ensures post { self.new ≡ self.old }

@@ -15,23 +15,29 @@ ghost use Rattle.line_tape.specs.Survival.{is_damaged, survives, IsLatest};
 ghost use Rattle.line_tape.specs.Transit.{in_transit};
 ghost use Rattle.line_tape.specs.Views.{with_mark};
 ghost use Rattle.line_posts.specs.Posts.{PostView};
-ghost use Rattle.line_posts.specs.Collected.{HasOnlyLooked};
+ghost use Rattle.line_posts.specs.Collected.{CollectorView, HasOnlyLooked};
+ghost use Rattle.line_posts.specs.Ends.{in_ends, known_rows, StillKnow};
 ghost use Rattle.line_posts.specs.Extension.{Extends};
 ghost use Rattle.line_posts.specs.Generations.{own_history, AreAccounted, AreLined, AreWhole};
 ghost use Rattle.line_posts.specs.Generations.{IsGeneration};
 ghost use Rattle.line_posts.specs.Gathered.{AreBelow, AreGathered, HasNoneFailed, HasOwn};
 ghost use Rattle.line_posts.specs.Gathered.{ArePrefixes};
+ghost use Rattle.line_posts.specs.Gathering.{AreBack, AreGatheredOnward};
+ghost use Rattle.line_posts.specs.Kept.{gathered_in, whole_marks, IsKeptOf};
 
 use crate::accounts::account;
 use crate::collectors::Collector;
+use crate::forgetting::Forgotten;
 use crate::further::{add_and_keep, further_of_all};
+use crate::gathered_anew::gathered_anew;
 use crate::posts::Post;
 use crate::refusals::GatherWhy;
 use line_catalogue::{Catalogue, DamageError};
 use line_names::{ProcId, ProcSet};
 use line_plan::{Plan, PlanError};
-use line_tape::{History, Marks};
-use std::alloc::Global;
+use line_tape::{Event, History, Marks};
+use rtrb::Consumer;
+use std::alloc::{AllocError, Global};
 use std::marker::Model;
 
 /// What was gathered of a generation: a history, marks of damage, who failed, the last round that
@@ -147,12 +153,60 @@ fn last_round(posts: &Vec<Post>) -> u32
     posts[0].latest()
 }
 
+/// What is gathered of workers that are back: the collector's own catalogue, with the events that
+/// it has not taken; or, where it let something go, a new one, made from the workers' own tapes.
+fn gather_all(
+    alloc: Global,
+    catalogue: &mut Catalogue,
+    forgotten: &Option<Forgotten>,
+    lines: &mut Vec<Consumer<Event>>,
+    posts: &mut Vec<Post>,
+    failed: &ProcSet,
+) -> Result<Option<Catalogue>, AllocError>
+    requires back { (collector : CollectorView) × AreBack collector posts.old.items
+        × (collector.lines ≡ in_ends lines.old.items)
+        × IsKeptOf forgotten.now collector.processes catalogue.old.processes catalogue.old.marks }
+    ensures gathered { IfOk result (λ anew. AreGatheredOnward failed.now
+        (in_ends lines.old.items) posts.old.items (gathered_in anew catalogue.new).processes) }
+    ensures marks { IfOk result (λ anew.
+        (gathered_in anew catalogue.new).marks ≡ whole_marks forgotten.now catalogue.old.marks) }
+    ensures processes { OnErr result (catalogue.new.processes ≡ catalogue.old.processes) }
+    ensures still { OnErr result (catalogue.new.marks ≡ catalogue.old.marks) }
+    ensures lines { in_ends lines.new.items ≡ in_ends lines.old.items }
+    ensures seen { StillKnow (known_rows lines.old.items) lines.new.items }
+    ensures posts { posts.new.items ≡ posts.old.items }
+{
+    match forgotten {
+        None => {
+            let mut further = further_of_all(alloc, catalogue, lines, posts, failed)?;
+            add_and_keep(alloc, catalogue, &mut further, failed);
+            Ok(None)
+        }
+        Some(forgotten) => {
+            let n = catalogue.n();
+            let anew = gathered_anew(alloc, n, &forgotten.marks, lines, posts, failed)?;
+            Ok(Some(anew))
+        }
+    }
+}
+
+/// The catalogue that was made anew, or else the collector's own.
+fn chosen(anew: Option<Catalogue>, own: Catalogue) -> Catalogue
+    ensures { result ≡ gathered_in anew own }
+{
+    match anew {
+        Some(anew) => anew,
+        None => own,
+    }
+}
+
 /// Gathers what the workers of a generation did: of a worker that failed what it reported, and of
 /// each other one all. A refusal hands collector and posts back as they were.
 ///
 /// It compares the two ends of each of n² rings, copies and adds each event that the collector has
-/// not taken, and plans once to keep what is in transit at that line, for `plan` and `restart`;
-/// where memory for that plan is refused, nothing else differs. What lies on the rings stays there.
+/// not taken, or all events where it let something go, and plans once to keep what is in transit at
+/// that line, for `plan` and `restart`; where memory for that plan is refused, nothing else
+/// differs. What lies on the rings stays there.
 pub fn gather(
     mut collector: Collector,
     mut posts: Vec<Post>,
@@ -180,7 +234,7 @@ pub fn gather(
     ensures unfinished { IfErr result (λ e. (e.why ≡ GatherWhy.Unfinished)
         ↔ (AreBelow (length collector.opening) failed × (AreWhole collector posts.items → ⊥))) }
 {
-    let n = collector.catalogue.n();
+    let n = collector.n();
     if !failed.is_below(n) {
         return Err(GatherRefused {
             why: GatherWhy::NoSuchProcess,
@@ -196,21 +250,20 @@ pub fn gather(
         });
     }
     let alloc = collector.alloc;
-    match further_of_all(
+    match gather_all(
         alloc,
         &mut collector.catalogue,
+        &collector.forgotten,
         &mut collector.lines,
         &mut posts,
         &failed,
     ) {
-        Ok(mut further) => {
+        Ok(anew) => {
             let floor = last_round(&posts);
             let capacity = collector.capacity;
-            let mut catalogue = collector.catalogue;
-            add_and_keep(alloc, &mut catalogue, &mut further, &failed);
             Ok(Gathered {
                 alloc,
-                catalogue,
+                catalogue: chosen(anew, collector.catalogue),
                 failed,
                 floor,
                 capacity,

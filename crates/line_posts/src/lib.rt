@@ -23,7 +23,9 @@ mod accounts;
 mod collectors;
 mod ends;
 mod fleets;
+mod forgetting;
 mod further;
+mod gathered_anew;
 mod gathering;
 mod journals;
 mod keeping;
@@ -42,6 +44,7 @@ mod restarts;
 mod rooms;
 mod round_checks;
 mod rounds;
+mod whole_names;
 
 pub use collectors::Collector;
 pub use fleets::fleet;
@@ -51,7 +54,8 @@ pub use limits::{MOST_CAPACITY, MOST_WORKERS};
 pub use posts::Post;
 pub use receiving::Received;
 pub use refusals::{
-    BeginWhy, FleetError, GatherWhy, ReceiveWhy, ReportError, RestartWhy, SendRefused, SendWhy,
+    BeginWhy, FleetError, ForgetWhy, GatherWhy, ReceiveWhy, ReportError, RestartWhy, SendRefused,
+    SendWhy,
 };
 pub use reports::Reported;
 pub use restarts::RestartRefused;

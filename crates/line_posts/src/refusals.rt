@@ -186,6 +186,38 @@ impl From<AllocError> for ReportError {
     }
 }
 
+/// Why nothing was let go.
+#[derive(Clone, Copy, Debug, PartialEq, Eq, Hash, Error)]
+pub enum ForgetWhy {
+    /// Out of memory.
+    #[error("out of memory")]
+    OutOfMemory = 0,
+    /// Of a process more would be let go in all than there are numbers for: `MOST_LET_GO`.
+    #[error("more of a process would be let go than there are numbers for")]
+    NoMoreNumbers = 50,
+}
+
+impl ForgetWhy {
+    /// The number of the refusal, as replies show it.
+    pub fn code(self) -> u32
+        ensures memory { self ≡ ForgetWhy.OutOfMemory → result ≡ 0 }
+        ensures numbers { self ≡ ForgetWhy.NoMoreNumbers → result ≡ 50 }
+    {
+        self as u32
+    }
+}
+
+impl From<AllocError> for ForgetWhy {
+    ghost use Rattle.std.specs.Prelude.{◌≡◌};
+    ghost use Rattle.line_posts.specs.declared.refusals.ForgetWhy.TheVariants.{OutOfMemory};
+
+    ghost from_gives = { λ _ e. e ≡ OutOfMemory };
+
+    fn from(_refused: AllocError) -> ForgetWhy {
+        ForgetWhy::OutOfMemory
+    }
+}
+
 /// Why nothing was gathered.
 #[derive(Clone, Copy, Debug, PartialEq, Eq, Hash, Error)]
 pub enum GatherWhy {

@@ -119,6 +119,32 @@ fn run_commands<K: Sink>(
     }
 }
 
+// Runs commands in a machine that has begun, and that ends with them.
+fn run_begun<K: Sink>(
+    alloc: Global,
+    mut world: Live,
+    first: u64,
+    mut commands: Commands,
+    sink: &mut K,
+    mut writer: RecordWriter,
+) -> Result<u64, TextFault>
+    requires empty { writer ≡ [] }
+    requires few { length commands + first < 2 ^ 64 }
+    ensures ok { IfOk result
+        (λ refused. spec.Runs world commands refused (K.taken sink.old) (K.taken sink.new)) }
+    ensures write { IfErr result (λ fault. fault.code ≡ WRITE_FAULT
+        → (fault.record_number ≡ 0) × (K.faults sink.new ≡ one_more (K.faults sink.old))
+        × spec.RunsFront world commands (K.taken sink.old) (K.taken sink.new)) }
+    ensures memory { IfErr result
+        (λ fault. fault.code ≡ 0
+        → (done : ℕ) × (fault.record_number ≡ first + done)
+        × spec.StopsAt world commands done (Puts (K.taken sink.old) (K.taken sink.new))) }
+    ensures codes { IfErr result (λ fault. (fault.code ≡ 0) ⊎ (fault.code ≡ WRITE_FAULT)) }
+    ensures sound { OnOk result (K.faults sink.new ≡ K.faults sink.old) }
+{
+    run_commands(alloc, &mut world, first, &mut commands, sink, &mut writer)
+}
+
 // A new machine.
 fn new_machine(alloc: Global, n: u32, mode: Mode) -> Result<Live, TextFault>
     requires { (1 ≤ n) × (n ≤ MOST_PROCESSES) }
@@ -174,16 +200,16 @@ fn run_script<K: Sink>(alloc: Global, script: KeptScript, sink: &mut K) -> Resul
         (λ fault. (fault.code ≡ 0) ⊎ (fault.code ≡ WRITE_FAULT) ⊎ spec.IsOfRun fault) }
     ensures sound { OnOk result (K.faults sink.new ≡ K.faults sink.old) }
 {
-    let Ok(mut writer) = RecordWriter::with_room(alloc) else {
+    let Ok(writer) = RecordWriter::with_room(alloc) else {
         return Err(fault_of_code(0));
     };
     let KeptScript {
         machine,
         first,
-        mut commands,
+        commands,
     } = script;
-    let mut world = machine_of(alloc, machine, first)?;
-    run_commands(alloc, &mut world, first, &mut commands, sink, &mut writer)
+    let world = machine_of(alloc, machine, first)?;
+    run_begun(alloc, world, first, commands, sink, writer)
 }
 
 // The script that the whole input spells. No text of the input is kept.

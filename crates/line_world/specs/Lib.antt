@@ -8,3 +8,4 @@ pub mod Sound
 pub mod Protocols
 pub mod Idle
 pub mod Deliveries
+pub mod Delivered

@@ -1,6 +1,7 @@
 //! What the machine answers.
 ghost use Rattle.std.specs.Prelude.{◌≡◌, ◌↔◌, IsTrue};
 ghost use Rattle.line_world.specs.Codes.{refusal_code};
+ghost use Rattle.line_world.specs.Delivered.{delivered_reply};
 
 use line_catalogue::DamageError;
 use line_names::{MsgName, ProcId};
@@ -89,6 +90,51 @@ pub enum Reply {
         /// For each process its incarnation after the restart.
         incarnations: Vec<u16>,
     },
+}
+
+/// What a delivery that was done did. It has no room for a plan, so it is handed on at less cost
+/// than a `Reply`.
+#[derive(Clone, Copy)]
+pub(crate) enum Delivered {
+    /// A message was taken.
+    Took {
+        /// Its name.
+        message: MsgName,
+        /// The round of the check that the process took before it, if it took one.
+        forced: Option<u32>,
+    },
+    /// A marker was taken.
+    Marked {
+        /// Its round.
+        round: u32,
+        /// Whether the process had to take its check of that round first.
+        forced: bool,
+    },
+    /// A copy was looked at whose send is no longer on the sender's tape.
+    Stale {
+        /// Its name.
+        message: MsgName,
+    },
+    /// A copy was looked at that the process has received before.
+    Repeated {
+        /// Its name.
+        message: MsgName,
+    },
+}
+
+impl Delivered {
+    /// The reply that tells it.
+    #[inline(always)]
+    pub(crate) fn reply(self) -> Reply
+        ensures { result ≡ delivered_reply self }
+    {
+        match self {
+            Delivered::Took { message, forced } => Reply::Took { message, forced },
+            Delivered::Marked { round, forced } => Reply::Marked { round, forced },
+            Delivered::Stale { message } => Reply::Stale { message },
+            Delivered::Repeated { message } => Reply::Repeated { message },
+        }
+    }
 }
 
 /// The reply of a step, or its refusal.

@@ -106,9 +106,9 @@ pub mod workers {
     pub use line_drills::{DrillError, DrillWhy, Gate, Order, drill};
     pub use line_marker::Marker;
     pub use line_posts::{
-        BeginWhy, Collector, FleetError, GatherRefused, GatherWhy, Gathered, MOST_CAPACITY,
-        MOST_WORKERS, Post, ReceiveWhy, Received, ReportError, Reported, RestartRefused,
-        RestartWhy, SendRefused, SendWhy, fleet, gather, generations_last,
+        BeginWhy, Collector, FleetError, ForgetWhy, GatherRefused, GatherWhy, Gathered,
+        MOST_CAPACITY, MOST_WORKERS, Post, ReceiveWhy, Received, ReportError, Reported,
+        RestartRefused, RestartWhy, SendRefused, SendWhy, fleet, gather, generations_last,
     };
     pub use line_workers::{Exchange, NoThread, Routine, RunError, Stream, Work, run, run_crew};
 }

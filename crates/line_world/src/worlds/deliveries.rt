@@ -11,6 +11,7 @@ ghost use Rattle.line_steps.specs.declared.modes.Mode.TheVariants.{Fifo, Unorder
 ghost use Rattle.line_moves.specs.Fates.{fate_of, forced_round};
 ghost use Rattle.line_world.specs.declared.replies.Answer.TheVariants.{Done, Refused};
 ghost use Rattle.line_steps.specs.declared.steps.Step.TheVariants.{Deliver};
+ghost use Rattle.line_world.specs.Delivered.{delivered_reply};
 ghost use Rattle.line_world.specs.Machine.{items_on};
 ghost use Rattle.line_world.specs.Refusals.{first_cause, link_causes, refusal_of};
 ghost use Rattle.line_world.specs.Runs.{Takes};
@@ -18,7 +19,7 @@ ghost use Rattle.line_world.specs.Runs.{Takes};
 use super::World;
 use super::refusals::lacks_room;
 use crate::protocols::Protocol;
-use crate::replies::{Reply, StepError};
+use crate::replies::{Delivered, Reply, StepError};
 use line_colours::ReceivedSends;
 use line_moves::{
     Fate, add_receipt, is_forced, list_completed, take_copy, take_marker, take_message, turn_round,
@@ -26,6 +27,14 @@ use line_moves::{
 use line_names::{Choice, MsgName, ProcId};
 use line_tape::{History, Item};
 use std::alloc::Global;
+
+/// A place on a link, which a delivery picks.
+#[derive(Clone, Copy)]
+struct LinkPlace {
+    from: ProcId,
+    to: ProcId,
+    pick: u64,
+}
 
 /// What becomes of a copy that a delivery picks. Its sender's tape tells whether it is held, and
 /// its flag whether it is received. It looks at no event and at no receipt.
@@ -51,38 +60,39 @@ impl World {
     /// Takes the message that is first on a link that keeps its order.
     fn take_first(
         &mut self,
-        from: ProcId,
-        to: ProcId,
-        _pick: u64,
+        place: LinkPlace,
         _state: &[u8],
         message: &MsgName,
-    ) -> Result<Reply, StepError>
-        requires passed { first_cause (link_causes self.old from to _pick _state.now) ≡ None }
-        requires picked { slice_get (items_on self.old from to) _pick
+    ) -> Result<Delivered, StepError>
+        requires passed { first_cause
+            (link_causes self.old place.from place.to place.pick _state.now) ≡ None }
+        requires picked { slice_get (items_on self.old place.from place.to) place.pick
             ≡ Some (Message message.now) }
         requires fifo { self.old.mode ≡ Fifo }
         ensures done { IfOk result
-            (λ reply. Takes self.old (Deliver from to _pick _state.now) (Done reply) self.new) }
+            (λ delivered. Takes self.old (Deliver place.from place.to place.pick _state.now)
+            (Done (delivered_reply delivered)) self.new) }
         ensures refused { IfErr result (λ e. e ≢ StepError.OutOfMemory
-            → Takes self.old (Deliver from to _pick _state.now) (Refused e) self.new) }
+            → Takes self.old (Deliver place.from place.to place.pick _state.now) (Refused e)
+            self.new) }
         ensures memory { IsErrOf result StepError.OutOfMemory → self.new ≡ self.old }
         ensures unrefused { IsErrOf result StepError.OutOfMemory
-            → refusal_of self.old (Deliver from to _pick _state.now) ≡ None }
+            → refusal_of self.old (Deliver place.from place.to place.pick _state.now) ≡ None }
     {
         match &mut self.protocol {
             Protocol::Markers { running } => {
-                if lacks_room(self.catalogue.history(), to, 1) {
+                if lacks_room(self.catalogue.history(), place.to, 1) {
                     return Err(StepError::TapeFull);
                 }
                 take_message(
                     &mut self.catalogue,
                     &mut self.links,
                     running,
-                    from,
-                    to,
+                    place.from,
+                    place.to,
                     message,
                 )?;
-                Ok(Reply::Took {
+                Ok(Delivered::Took {
                     message: *message,
                     forced: None,
                 })
@@ -94,35 +104,36 @@ impl World {
     /// Takes a copy that forces no check.
     fn take_unforced(
         &mut self,
-        _from: ProcId,
-        to: ProcId,
-        _pick: u64,
+        place: LinkPlace,
         _state: &[u8],
         message: &MsgName,
-    ) -> Result<Reply, StepError>
-        requires passed { first_cause (link_causes self.old _from to _pick _state.now) ≡ None }
-        requires picked { slice_get (items_on self.old _from to) _pick
+    ) -> Result<Delivered, StepError>
+        requires passed { first_cause
+            (link_causes self.old place.from place.to place.pick _state.now) ≡ None }
+        requires picked { slice_get (items_on self.old place.from place.to) place.pick
             ≡ Some (Message message.now) }
         requires unordered { self.old.mode ≡ Unordered }
-        requires taken { fate_of Unordered self.old.history to message.now ≡ Taken }
-        requires unforced { forced_round Unordered self.old.history to message.now ≡ None }
+        requires taken { fate_of Unordered self.old.history place.to message.now ≡ Taken }
+        requires unforced { forced_round Unordered self.old.history place.to message.now ≡ None }
         ensures done { IfOk result
-            (λ reply. Takes self.old (Deliver _from to _pick _state.now) (Done reply) self.new) }
+            (λ delivered. Takes self.old (Deliver place.from place.to place.pick _state.now)
+            (Done (delivered_reply delivered)) self.new) }
         ensures refused { IfErr result (λ e. e ≢ StepError.OutOfMemory
-            → Takes self.old (Deliver _from to _pick _state.now) (Refused e) self.new) }
+            → Takes self.old (Deliver place.from place.to place.pick _state.now) (Refused e)
+            self.new) }
         ensures memory { IsErrOf result StepError.OutOfMemory → self.new ≡ self.old }
         ensures unrefused { IsErrOf result StepError.OutOfMemory
-            → refusal_of self.old (Deliver _from to _pick _state.now) ≡ None }
+            → refusal_of self.old (Deliver place.from place.to place.pick _state.now) ≡ None }
     {
         match &mut self.protocol {
             Protocol::Markers { .. } => unreachable!(),
             Protocol::Colours { received, .. } => {
-                if lacks_room(self.catalogue.history(), to, 1) {
+                if lacks_room(self.catalogue.history(), place.to, 1) {
                     return Err(StepError::TapeFull);
                 }
-                take_copy(&mut self.catalogue, to, message)?;
+                take_copy(&mut self.catalogue, place.to, message)?;
                 received.receive(message);
-                Ok(Reply::Took {
+                Ok(Delivered::Took {
                     message: *message,
                     forced: None,
                 })
@@ -134,26 +145,28 @@ impl World {
     fn take_forced(
         &mut self,
         alloc: Global,
-        _from: ProcId,
-        to: ProcId,
-        _pick: u64,
+        place: LinkPlace,
         state: &[u8],
         message: &MsgName,
         round: u32,
-    ) -> Result<Reply, StepError>
-        requires passed { first_cause (link_causes self.old _from to _pick state.now) ≡ None }
-        requires picked { slice_get (items_on self.old _from to) _pick
+    ) -> Result<Delivered, StepError>
+        requires passed { first_cause
+            (link_causes self.old place.from place.to place.pick state.now) ≡ None }
+        requires picked { slice_get (items_on self.old place.from place.to) place.pick
             ≡ Some (Message message.now) }
         requires unordered { self.old.mode ≡ Unordered }
-        requires taken { fate_of Unordered self.old.history to message.now ≡ Taken }
-        requires forced { forced_round Unordered self.old.history to message.now ≡ Some round }
+        requires taken { fate_of Unordered self.old.history place.to message.now ≡ Taken }
+        requires forced { forced_round Unordered self.old.history place.to message.now
+            ≡ Some round }
         ensures done { IfOk result
-            (λ reply. Takes self.old (Deliver _from to _pick state.now) (Done reply) self.new) }
+            (λ delivered. Takes self.old (Deliver place.from place.to place.pick state.now)
+            (Done (delivered_reply delivered)) self.new) }
         ensures refused { IfErr result (λ e. e ≢ StepError.OutOfMemory
-            → Takes self.old (Deliver _from to _pick state.now) (Refused e) self.new) }
+            → Takes self.old (Deliver place.from place.to place.pick state.now) (Refused e)
+            self.new) }
         ensures memory { IsErrOf result StepError.OutOfMemory → self.new ≡ self.old }
         ensures unrefused { IsErrOf result StepError.OutOfMemory
-            → refusal_of self.old (Deliver _from to _pick state.now) ≡ None }
+            → refusal_of self.old (Deliver place.from place.to place.pick state.now) ≡ None }
     {
         match &mut self.protocol {
             Protocol::Markers { .. } => unreachable!(),
@@ -162,7 +175,7 @@ impl World {
                 colours,
                 received,
             } => {
-                if lacks_room(self.catalogue.history(), to, 2) {
+                if lacks_room(self.catalogue.history(), place.to, 2) {
                     return Err(StepError::TapeFull);
                 }
                 turn_round(
@@ -171,14 +184,14 @@ impl World {
                     colours,
                     turning,
                     &mut self.rounds,
-                    to,
+                    place.to,
                     state,
                     self.last_round,
                     1,
                 )?;
-                add_receipt(&mut self.catalogue, to, message);
+                add_receipt(&mut self.catalogue, place.to, message);
                 received.receive(message);
-                Ok(Reply::Took {
+                Ok(Delivered::Took {
                     message: *message,
                     forced: Some(round),
                 })
@@ -190,36 +203,37 @@ impl World {
     fn deliver_message(
         &mut self,
         alloc: Global,
-        from: ProcId,
-        to: ProcId,
-        pick: u64,
+        place: LinkPlace,
         state: &[u8],
         message: &MsgName,
-    ) -> Result<Reply, StepError>
-        requires passed { first_cause (link_causes self.old from to pick state.now) ≡ None }
-        requires picked { slice_get (items_on self.old from to) pick
+    ) -> Result<Delivered, StepError>
+        requires passed { first_cause
+            (link_causes self.old place.from place.to place.pick state.now) ≡ None }
+        requires picked { slice_get (items_on self.old place.from place.to) place.pick
             ≡ Some (Message message.now) }
         ensures done { IfOk result
-            (λ reply. Takes self.old (Deliver from to pick state.now) (Done reply) self.new) }
+            (λ delivered. Takes self.old (Deliver place.from place.to place.pick state.now)
+            (Done (delivered_reply delivered)) self.new) }
         ensures refused { IfErr result (λ e. e ≢ StepError.OutOfMemory
-            → Takes self.old (Deliver from to pick state.now) (Refused e) self.new) }
+            → Takes self.old (Deliver place.from place.to place.pick state.now) (Refused e)
+            self.new) }
         ensures memory { IsErrOf result StepError.OutOfMemory → self.new ≡ self.old }
         ensures unrefused { IsErrOf result StepError.OutOfMemory
-            → refusal_of self.old (Deliver from to pick state.now) ≡ None }
+            → refusal_of self.old (Deliver place.from place.to place.pick state.now) ≡ None }
     {
         let _n = self.catalogue.n();
         match &self.protocol {
-            Protocol::Markers { .. } => self.take_first(from, to, pick, state, message),
+            Protocol::Markers { .. } => self.take_first(place, state, message),
             Protocol::Colours {
                 colours,
                 received,
                 ..
-            } => match fate_of(self.catalogue.history(), received, to, message) {
-                Fate::Stale => Ok(Reply::Stale { message: *message }),
-                Fate::Repeated => Ok(Reply::Repeated { message: *message }),
-                Fate::Taken => match colours.before_receive(to, message) {
-                    None => self.take_unforced(from, to, pick, state, message),
-                    Some(round) => self.take_forced(alloc, from, to, pick, state, message, round),
+            } => match fate_of(self.catalogue.history(), received, place.to, message) {
+                Fate::Stale => Ok(Delivered::Stale { message: *message }),
+                Fate::Repeated => Ok(Delivered::Repeated { message: *message }),
+                Fate::Taken => match colours.before_receive(place.to, message) {
+                    None => self.take_unforced(place, state, message),
+                    Some(round) => self.take_forced(alloc, place, state, message, round),
                 },
             },
         }
@@ -230,27 +244,35 @@ impl World {
     fn deliver_marker(
         &mut self,
         alloc: Global,
-        from: ProcId,
-        to: ProcId,
-        pick: u64,
+        place: LinkPlace,
         state: &[u8],
         round: u32,
-    ) -> Result<Reply, StepError>
-        requires passed { first_cause (link_causes self.old from to pick state.now) ≡ None }
-        requires picked { slice_get (items_on self.old from to) pick ≡ Some (Marker round) }
+    ) -> Result<Delivered, StepError>
+        requires passed { first_cause
+            (link_causes self.old place.from place.to place.pick state.now) ≡ None }
+        requires picked { slice_get (items_on self.old place.from place.to) place.pick
+            ≡ Some (Marker round) }
         ensures done { IfOk result
-            (λ reply. Takes self.old (Deliver from to pick state.now) (Done reply) self.new) }
+            (λ delivered. Takes self.old (Deliver place.from place.to place.pick state.now)
+            (Done (delivered_reply delivered)) self.new) }
         ensures refused { IfErr result (λ e. e ≢ StepError.OutOfMemory
-            → Takes self.old (Deliver from to pick state.now) (Refused e) self.new) }
+            → Takes self.old (Deliver place.from place.to place.pick state.now) (Refused e)
+            self.new) }
         ensures memory { IsErrOf result StepError.OutOfMemory → self.new ≡ self.old }
         ensures unrefused { IsErrOf result StepError.OutOfMemory
-            → refusal_of self.old (Deliver from to pick state.now) ≡ None }
+            → refusal_of self.old (Deliver place.from place.to place.pick state.now) ≡ None }
     {
         match &mut self.protocol {
             Protocol::Markers { running } => {
-                let forced = is_forced(running, self.catalogue.history(), from, to, round);
+                let forced = is_forced(
+                    running,
+                    self.catalogue.history(),
+                    place.from,
+                    place.to,
+                    round,
+                );
                 let events = if forced { 2 } else { 1 };
-                if lacks_room(self.catalogue.history(), to, events) {
+                if lacks_room(self.catalogue.history(), place.to, events) {
                     return Err(StepError::TapeFull);
                 }
                 self.rounds.reserve()?;
@@ -259,15 +281,15 @@ impl World {
                     &mut self.catalogue,
                     &mut self.links,
                     running,
-                    from,
-                    to,
+                    place.from,
+                    place.to,
                     round,
                     state,
                     forced,
                 )?;
                 let history = self.catalogue.history();
                 list_completed(alloc, running, history, &mut self.rounds);
-                Ok(Reply::Marked { round, forced })
+                Ok(Delivered::Marked { round, forced })
             }
             // Links without an order hold no markers.
             Protocol::Colours { .. } => unreachable!(),
@@ -295,11 +317,16 @@ impl World {
             return Err(e);
         }
         let _n = self.catalogue.n();
-        match self.links.item(from, to, pick as usize) {
+        let place = LinkPlace { from, to, pick };
+        match self.links.item(place.from, place.to, place.pick as usize) {
             Some(Item::Message(message)) => {
-                self.deliver_message(alloc, from, to, pick, state, &message)
+                let delivered = self.deliver_message(alloc, place, state, &message)?;
+                Ok(delivered.reply())
             }
-            Some(Item::Marker(round)) => self.deliver_marker(alloc, from, to, pick, state, round),
+            Some(Item::Marker(round)) => {
+                let delivered = self.deliver_marker(alloc, place, state, round)?;
+                Ok(delivered.reply())
+            }
             None => unreachable!(),
         }
     }

@@ -6,9 +6,9 @@ use Rattle.line_catalogue.proofs.known.mark_all.Given as goal
 abbrev pub invariant-loop-p : goal.invariant-loop-p
 invariant-loop-p l = length l.bases.items ≡ length l.ends
 
-abbrev pub invariant-loop-receiver : goal.invariant-loop-receiver
-invariant-loop-receiver l = record {
+abbrev pub invariant-loop-q : goal.invariant-loop-q
+invariant-loop-q l = record {
   rows : AreMarkRows l.history.processes l.starts.items l.marks.items;
   known : AreKnown l.history.processes l.line l.bases.items l.starts.items l.marks.items;
-  noted : (q : ℕ) → q < l.receiver → AreReceiptsMarkedSince l.history.processes l.line l.bases.items l.starts.items l.marks.items q (place_at l.places q);
+  noted : (q : ℕ) → q < l.q → AreReceiptsMarkedSince l.history.processes l.line l.bases.items l.starts.items l.marks.items q (place_at l.places q);
 }

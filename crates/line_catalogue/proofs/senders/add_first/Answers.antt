@@ -1,5 +1,5 @@
 -- What was kept, alone or with the row.
-use Rattle.std.proofs.Common.{◌≡◌, ◌<◌, ◌≤◌, ◌+◌, ◌++◌, ◌∷◌, [], ◌⊎◌, ℕ, Bool, true, false, cond, List, length, map, get_or, refl, sym, ap, ◌∙◌, subst, append-nil, arith, inl, inr}
+use Rattle.std.proofs.Common.{◌≡◌, ◌<◌, ◌+◌, ◌++◌, ◌∷◌, [], ℕ, Bool, true, false, cond, List, length, map, get_or, sym, ap, ◌∙◌, subst, append-nil, arith, inl, inr}
 use Rattle.std.specs.List.{All, Contains}
 use Rattle.std.proofs.lemmas.Bool.{cases_lt}
 use Rattle.std.proofs.lemmas.List.{append_assoc, get_or-map, length-map}
@@ -15,7 +15,7 @@ use Rattle.line_catalogue.proofs.KnownLemmas.{told-one}
 use Rattle.line_catalogue.proofs.LeftLemmas.{in_map}
 use Rattle.line_catalogue.proofs.OpenLemmas.{flipped, open-told}
 use Rattle.line_catalogue.proofs.SenderLemmas.{among-messages_of, from-messages_of, gap-messages_of, in-messages_of, rising-messages_of}
-use Rattle.line_catalogue.proofs.senders.add_first.Goals.{then-message-end+then-is_open+in_ok-push, else-message-end, else-message-end-via-then-message-end+else-is_open, else-message-end-via-else-message-end}
+use Rattle.line_catalogue.proofs.senders.add_first.Goals.{then-message-sender+then-is_open+in_ok-push, else-message-sender, else-message-sender-via-then-message-sender+else-is_open, else-message-sender-via-else-message-sender}
 use Rattle.line_catalogue.proofs.senders.add_first.Goals as goal
 
 pub sent_by-kept-requires : goal.sent_by-kept-requires
@@ -26,27 +26,27 @@ loop-message-init c = λ b low passed next.
     let history : List Process = c.args.history.now.processes in
     let line : List Choice = c.args.line.now in
     let old : List MsgName = c.args.messages.now.items in
-    sym (append-nil old) ∙ ap (λ (xs : List MsgName). old ++ xs) (gap-messages_of history line c.args.p c.args.end c.args.row.now c.args.left.now c.sent_by-kept.result.now c.sent_by-kept.ensures (c.is_empty.ensures.0 c.if-is_empty.true) c.requires.order c.requires.end c.requires.held 0 0 b (omega arith) low (λ j l. absurd (omega (arith, l))) next)
+    sym (append-nil old) ∙ ap (λ (xs : List MsgName). old ++ xs) (gap-messages_of history line c.args.sender.now.p c.args.sender.now.end c.args.sender.now.row.now c.args.sender.now.left.now c.sent_by-kept.result.now c.sent_by-kept.ensures (c.is_empty.ensures.0 c.if-is_empty.true) c.requires.order c.requires.end c.requires.held 0 0 b (omega arith) low (λ j l. absurd (omega (arith, l))) next)
 
 pub is_open-requires-clause-told : goal.is_open-requires-clause-told
 is_open-requires-clause-told c =
-    let p : ℕ = c.args.p in
-    let left : List MsgName = c.args.left.now in
+    let p : ℕ = c.args.sender.now.p in
+    let left : List MsgName = c.args.sender.now.left.now in
     let kept : List MsgName = c.sent_by-kept.result.now in
     let is : kept ≡ messages_of p left = c.sent_by-kept.ensures in
     let i : ℕ = c.loop-message.message-index in
     let m : MsgName = c.message-item.result in
     let own : m.from ≡ p = ap (λ (x : MsgName). x.from) c.message-item.is ∙ subst (All (λ (x : MsgName). x.from ≡ p)) (sym is) (from-messages_of p left) i m (omega arith) in
     let among : Contains left m = among-messages_of p left m (subst (λ (ms : List MsgName). Contains ms m) is (i, omega arith, sym c.message-item.is)) in
-    told-one c.args.history.now.processes c.args.line.now p c.args.base c.args.known.now left m own among c.requires.told
+    told-one c.args.history.now.processes c.args.line.now p c.args.sender.now.base c.args.sender.now.marks.now left m own among c.requires.told
 
 pub loop-message-preserved : goal.loop-message-preserved
 loop-message-preserved c = λ b low passed next.
     let history : List Process = c.args.history.now.processes in
     let line : List Choice = c.args.line.now in
-    let p : ℕ = c.args.p in
-    let end : ℕ = c.args.end in
-    let left : List MsgName = c.args.left.now in
+    let p : ℕ = c.args.sender.now.p in
+    let end : ℕ = c.args.sender.now.end in
+    let left : List MsgName = c.args.sender.now.left.now in
     let kept : List MsgName = c.sent_by-kept.result.now in
     let is : kept ≡ messages_of p left = c.sent_by-kept.ensures in
     let row : List ℕ = map (λ (m : MsgName). m.number) kept in
@@ -76,7 +76,7 @@ loop-message-preserved c = λ b low passed next.
       | inl a ↦ omega (arith, a, at)
       | inr e ↦ absurd (omega (arith, e, at, below))
     ] in
-    let none : open_first history line p (number + 1) ≡ open_first history line p b = gap-messages_of history line p end c.args.row.now left kept is (c.is_empty.ensures.0 c.if-is_empty.true) c.requires.order c.requires.end c.requires.held (i + 1) (number + 1) b (omega (arith, under)) low (λ j l. elim (cases_lt j i) [
+    let none : open_first history line p (number + 1) ≡ open_first history line p b = gap-messages_of history line p end c.args.sender.now.row.now left kept is (c.is_empty.ensures.0 c.if-is_empty.true) c.requires.order c.requires.end c.requires.held (i + 1) (number + 1) b (omega (arith, under)) low (λ j l. elim (cases_lt j i) [
       | inl before ↦ inl (omega (arith, earlier j before))
       | inr here ↦
           let same : j ≡ i = omega (arith, l, here) in
@@ -84,17 +84,17 @@ loop-message-preserved c = λ b low passed next.
     ]) next in
     ap (λ (k : ℕ). old ++ open_first history line k (number + 1)) own ∙ ap (λ (xs : List MsgName). old ++ xs) none
     in
-    elim c.if-message-end.branch [
-      | then-message-end+then-is_open+in_ok-push w ↦
-          let below : number < end = w.if-message-end.true in
+    elim c.if-message-sender.branch [
+      | then-message-sender+then-is_open+in_ok-push w ↦
+          let below : number < end = w.if-message-sender.true in
           let unseen : received ≡ false = flipped received true (sym (w.is_open.ensures sent.0 sent.1) ∙ w.if-is_open.true) in
           ap (λ u. u.items) w.messages-is ∙ w.in_ok-push.ensures.items ∙ ap (λ (xs : List MsgName). xs ++ m ∷ []) (so_far below) ∙ append_assoc old so (m ∷ []) ∙ ap (λ (xs : List MsgName). old ++ xs) (sym (grown below false unseen)) ∙ onward below
-      | else-message-end w ↦ ap (λ u. u.items) w.messages-is ∙ elim w.else-message-end.branch [
-        | else-message-end-via-then-message-end+else-is_open v ↦
-            let below : number < end = v.if-message-end.true in
+      | else-message-sender w ↦ ap (λ u. u.items) w.messages-is ∙ elim w.else-message-sender.branch [
+        | else-message-sender-via-then-message-sender+else-is_open v ↦
+            let below : number < end = v.if-message-sender.true in
             let seen : received ≡ true = flipped received false (sym (v.is_open.ensures sent.0 sent.1) ∙ v.if-is_open.false) in
             so_far below ∙ ap (λ (xs : List MsgName). old ++ xs) (sym (grown below true seen ∙ append-nil so)) ∙ onward below
-        | else-message-end-via-else-message-end v ↦ c.loop-message.invariant b low (λ j l. passed j (omega (arith, l))) (λ _. omega (arith, at, low, v.if-message-end.false))
+        | else-message-sender-via-else-message-sender v ↦ c.loop-message.invariant b low (λ j l. passed j (omega (arith, l))) (λ _. omega (arith, at, low, v.if-message-sender.false))
       ]
     ]
 
@@ -102,18 +102,18 @@ pub returns-then-is_empty : goal.returns-then-is_empty
 returns-then-is_empty c =
     let kept : List MsgName = c.sent_by-kept.result.now in
     let row : List ℕ = map (λ (m : MsgName). m.number) kept in
-    c.loop-message.invariant c.args.end (omega arith) (λ j l. elim (cases_lt (get_or row j 0) c.args.end) [
+    c.loop-message.invariant c.args.sender.now.end (omega arith) (λ j l. elim (cases_lt (get_or row j 0) c.args.sender.now.end) [
       | inl below ↦ inl below
       | inr above ↦ inr (omega (arith, above))
     ]) (λ l. absurd (omega (arith, l, c.loop-message-test.false, length-map kept (λ (m : MsgName). m.number))))
 
 pub add_old-requires-clause-held : goal.add_old-requires-clause-held
 add_old-requires-clause-held c = λ q m from low sent unseen.
-    let own : List MsgName = messages_of c.args.p c.args.left.now in
-    let old : List ℕ = c.args.row.now in
+    let own : List MsgName = messages_of c.args.sender.now.p c.args.sender.now.left.now in
+    let old : List ℕ = c.args.sender.now.row.now in
     let of : List MsgName → List ℕ = λ ms. map (λ (x : MsgName). x.number) ms in
     let among : Contains (of own ++ old) m.number = elim (c.requires.held q m from low sent unseen) [
       | inl row ↦ Contains-append_right (of own) old m.number row
-      | inr left ↦ Contains-append_left (of own) old m.number (in_map (λ (x : MsgName). x.number) own m (in-messages_of c.args.p c.args.left.now m from left))
+      | inr left ↦ Contains-append_left (of own) old m.number (in_map (λ (x : MsgName). x.number) own m (in-messages_of c.args.sender.now.p c.args.sender.now.left.now m from left))
     ] in
-    subst (λ (row : List ℕ). Contains row m.number) (sym c.as_slice.ensures) (c.in_ok-both.ensures.kept m.number (subst (λ (ms : List MsgName). Contains (of ms ++ old) m.number) (sym c.sent_by-kept.ensures) among))
+    subst (λ (row : List ℕ). Contains row m.number) (sym c.as_slice-row.ensures) (c.in_ok-both.ensures.kept m.number (subst (λ (ms : List MsgName). Contains (of ms ++ old) m.number) (sym c.sent_by-kept.ensures) among))

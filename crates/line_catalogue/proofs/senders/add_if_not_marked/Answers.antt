@@ -20,9 +20,9 @@ use Rattle.line_catalogue.proofs.senders.add_if_not_marked.Goals as goal
 
 pub unwrap-requires : goal.unwrap-requires
 unwrap-requires c =
-    let tape : List Event = tape_at c.args.history.now.processes c.args.p in
+    let tape : List Event = tape_at c.args.history.now.processes c.args.sender.now.p in
     let k : ℕ = c.args.number in
-    let some : c.sent_under.result ≡ Some (get_or (incarnations_sent tape) k 0) = c.sent_under.ensures ∙ ap (λ (xs : List Event). slice_get (incarnations_sent xs) k) c.tape.ensures.events ∙ slice_get-get_or (incarnations_sent tape) k 0 (omega (arith, c.requires.number, sends_take tape (place tape (choice_at c.args.line.now c.args.p)))) in
+    let some : c.sent_under.result ≡ Some (get_or (incarnations_sent tape) k 0) = c.sent_under.ensures ∙ ap (λ (xs : List Event). slice_get (incarnations_sent xs) k) c.tape.ensures.events ∙ slice_get-get_or (incarnations_sent tape) k 0 (omega (arith, c.requires.number, sends_take tape (place tape (choice_at c.args.line.now c.args.sender.now.p)))) in
     subst (λ (o : Option ℕ). IsSome o) (sym some) refl
 
 pub returns-in-Some-true : goal.returns-in-Some-true
@@ -30,14 +30,14 @@ returns-in-Some-true c = λ before so_far.
     let history : List Process = c.args.history.now.processes in
     let line : List Choice = c.args.line.now in
     let marked = c.requires.known (c.in-Some-true.is ∙ ap Some c.in-Some-true.field-0-test) in
-    so_far ∙ ap (λ (xs : List MsgName). before ++ xs) (sym (open-marked history line c.args.p c.args.number marked c.requires.number))
+    so_far ∙ ap (λ (xs : List MsgName). before ++ xs) (sym (open-marked history line c.args.sender.now.p c.args.number marked c.requires.number))
 
 -- the message that was sent under that number is this one
 pub returns-in_ok-push-in-Some-false : goal.returns-in_ok-push-in-Some-false
 returns-in_ok-push-in-Some-false c = λ before so_far.
     let history : List Process = c.args.history.now.processes in
     let line : List Choice = c.args.line.now in
-    let p : ℕ = c.args.p in
+    let p : ℕ = c.args.sender.now.p in
     let k : ℕ = c.args.number in
     let clear = c.requires.told c.if-closed.true (c.in-Some-false.is ∙ ap Some c.in-Some-false.field-0-test) in
     let one = open-unmarked history line p k clear c.requires.number in

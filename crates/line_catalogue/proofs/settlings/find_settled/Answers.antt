@@ -16,8 +16,8 @@ use Rattle.line_catalogue.proofs.LeftLemmas.{ends-more, has-open, have-open}
 use Rattle.line_catalogue.proofs.OrderLemmas.{below-first, below-next, below-none, AreOpenBelow}
 use Rattle.line_catalogue.proofs.settlings.find_settled.Goals as goal
 
-pub loop-sender-init : goal.loop-sender-init
-loop-sender-init c = record {
+pub loop-p-init : goal.loop-p-init
+loop-p-init c = record {
   len = c.in_ok-moved.ensures.len;
   room = omega (arith, c.in_ok-moved.ensures.capacity);
   moved = ap (λ (xs : List ℕ). length xs) c.in_ok-moved.ensures.items;
@@ -30,11 +30,11 @@ pub settle_sender-requires-clause-held : goal.settle_sender-requires-clause-held
 settle_sender-requires-clause-held c =
     let history : List Process = c.args.history.now.processes in
     let line : List Choice = c.args.line.now in
-    let s : ℕ = c.loop-sender.sender in
+    let s : ℕ = c.loop-p.p in
     let row : List ℕ = c.index.result.now in
     let ends : List ℕ = c.as_slice-ends.result.now in
     let end : ℕ = start_at ends s in
-    let at : c.unwrap-p.result ≡ s = (rw c.unwrap-p.ensures at c.try_new.ensures).1 in
+    let at : c.unwrap.result ≡ s = (rw c.unwrap.ensures at c.try_new.ensures).1 in
     let inside : s < length history = omega (arith, c.n-n.ensures.value) in
     let is : numbers_at c.in_ok-rows.rows.items s ≡ row = get_or_default c.in_ok-rows.rows.items s [] row (omega (arith, inside, c.in_ok-rows.ensures.count)) ∙ sym c.index.ensures in
     let are : AreEnds history c.args.kept.starts.now line ends = subst (AreEnds history c.args.kept.starts.now line) (sym c.as_slice-ends.ensures.value) c.in_ok-bounds.ensures in
@@ -49,59 +49,59 @@ pub settle_sender-requires-clause-told : goal.settle_sender-requires-clause-told
 settle_sender-requires-clause-told c =
     let history : List Process = c.args.history.now.processes in
     let line : List Choice = c.args.line.now in
-    let s : ℕ = c.loop-sender.sender in
+    let s : ℕ = c.loop-p.p in
     let received = c.find_known-received.result in
-    let at : c.unwrap-p.result ≡ s = (rw c.unwrap-p.ensures at c.try_new.ensures).1 in
+    let at : c.unwrap.result ≡ s = (rw c.unwrap.ensures at c.try_new.ensures).1 in
     subst (λ (k : ℕ). AreMarksExact history line k c.base.result c.row.result.now c.args.kept.left.now) (sym at) (row-told history line c.args.kept.starts.now c.args.kept.places.now received.bases.items received.starts.items received.marks.items s c.base.result c.row.result.now c.find_known-received.ensures.known c.find_known-received.ensures.noted c.base.ensures c.row.ensures.within c.row.ensures.same c.args.kept.left.now c.requires.left)
 
 pub settle_sender-requires-clause-known : goal.settle_sender-requires-clause-known
 settle_sender-requires-clause-known c =
     let history : List Process = c.args.history.now.processes in
     let line : List Choice = c.args.line.now in
-    let s : ℕ = c.loop-sender.sender in
+    let s : ℕ = c.loop-p.p in
     let received = c.find_known-received.result in
-    let at : c.unwrap-p.result ≡ s = (rw c.unwrap-p.ensures at c.try_new.ensures).1 in
+    let at : c.unwrap.result ≡ s = (rw c.unwrap.ensures at c.try_new.ensures).1 in
     let inside : s < length history = omega (arith, c.n-n.ensures.value) in
     subst (λ (k : ℕ). AreReceived history line k c.base.result c.row.result.now) (sym at) (row-received history line received.bases.items received.starts.items received.marks.items s c.base.result c.row.result.now c.find_known-received.ensures.known inside c.base.ensures c.row.ensures.marked)
 
-pub loop-sender-preserved : goal.loop-sender-preserved
-loop-sender-preserved c =
+pub loop-p-preserved : goal.loop-p-preserved
+loop-p-preserved c =
     let history : List Process = c.args.history.now.processes in
     let line : List Choice = c.args.line.now in
-    let s : ℕ = c.loop-sender.sender in
-    let moved : List ℕ = c.loop-sender.moved.items in
+    let s : ℕ = c.loop-p.p in
+    let moved : List ℕ = c.loop-p.moved.items in
     let start : ℕ = c.in_ok-start.start in
     let messages : List MsgName = c.settle_sender.new.messages.items in
-    let at : c.unwrap-p.result ≡ s = (rw c.unwrap-p.ensures at c.try_new.ensures).1 in
+    let at : c.unwrap.result ≡ s = (rw c.unwrap.ensures at c.try_new.ensures).1 in
     let new : c.push_reserved.new.self.items ≡ moved ++ start ∷ [] = c.push_reserved.ensures.items in
-    let older : List MsgName = c.loop-sender.messages.items in
+    let older : List MsgName = c.loop-p.messages.items in
     let grown : messages ≡ older ++ open_first history line s start = c.in_ok-start.ensures.left ∙ ap (λ (k : ℕ). older ++ open_first history line k start) at in
     let few : start ≤ sends (events_before history line s) = subst (λ (k : ℕ). start ≤ sends (events_before history line k)) at c.in_ok-start.ensures.before in
-    let before : start ≤ sends (events_before history line (length moved)) = subst (λ k. start ≤ sends (events_before history line k)) (at ∙ sym c.loop-sender.invariant.moved) c.in_ok-start.ensures.before in
+    let before : start ≤ sends (events_before history line (length moved)) = subst (λ k. start ≤ sends (events_before history line k)) (at ∙ sym c.loop-p.invariant.moved) c.in_ok-start.ensures.before in
     record {
-      moved = ap (λ (xs : List ℕ). length xs) new ∙ length_push moved start ∙ ap (λ (k : ℕ). k + 1) c.loop-sender.invariant.moved;
-      len = omega (arith, c.push_reserved.ensures.len, c.loop-sender.invariant.len);
-      room = omega (arith, c.push_reserved.ensures.capacity, c.loop-sender.invariant.room);
-      before = λ p. subst (λ (xs : List ℕ). start_at xs p ≤ sends (events_before history line p)) (sym new) (ends-more (λ (k : ℕ). sends (events_before history line k)) moved start c.loop-sender.invariant.before before p);
+      moved = ap (λ (xs : List ℕ). length xs) new ∙ length_push moved start ∙ ap (λ (k : ℕ). k + 1) c.loop-p.invariant.moved;
+      len = omega (arith, c.push_reserved.ensures.len, c.loop-p.invariant.len);
+      room = omega (arith, c.push_reserved.ensures.capacity, c.loop-p.invariant.room);
+      before = λ p. subst (λ (xs : List ℕ). start_at xs p ≤ sends (events_before history line p)) (sym new) (ends-more (λ (k : ℕ). sends (events_before history line k)) moved start c.loop-p.invariant.before before p);
       held = λ p l. subst (λ (xs : List ℕ). HaveLeft history line p (start_at xs p) messages) (sym new) (elim (cases_lt p s) [
         | inl earlier ↦
-            let old : start_at (moved ++ start ∷ []) p ≡ start_at moved p = get_or_append_left moved (start ∷ []) 0 p (omega (arith, earlier, c.loop-sender.invariant.moved)) in
-            subst (λ k. HaveLeft history line p k messages) (sym old) (λ q m from low sent unseen. subst (λ (xs : List MsgName). Contains xs m) (sym grown) (Contains-append_left older (open_first history line s start) m (c.loop-sender.invariant.held p earlier q m from low sent unseen)))
+            let old : start_at (moved ++ start ∷ []) p ≡ start_at moved p = get_or_append_left moved (start ∷ []) 0 p (omega (arith, earlier, c.loop-p.invariant.moved)) in
+            subst (λ k. HaveLeft history line p k messages) (sym old) (λ q m from low sent unseen. subst (λ (xs : List MsgName). Contains xs m) (sym grown) (Contains-append_left older (open_first history line s start) m (c.loop-p.invariant.held p earlier q m from low sent unseen)))
         | inr here ↦
             let same : s ≡ p = omega (arith, l) in
-            let last : start_at (moved ++ start ∷ []) p ≡ start = get_or_push moved start 0 p (c.loop-sender.invariant.moved ∙ same) in
+            let last : start_at (moved ++ start ∷ []) p ≡ start = get_or_push moved start 0 p (c.loop-p.invariant.moved ∙ same) in
             subst (λ k. HaveLeft history line p k messages) (sym last) (subst (λ k. HaveLeft history line k start messages) same (subst (HaveLeft history line s start) (sym grown) (have-open history line s start older few)))
       ]);
-      below = subst (λ (xs : List MsgName). AreOpenBelow history line xs (s + 1) 0) (sym grown) (below-next history line (older ++ open_first history line s start) s start (below-first history line older s start few c.loop-sender.invariant.below));
+      below = subst (λ (xs : List MsgName). AreOpenBelow history line xs (s + 1) 0) (sym grown) (below-next history line (older ++ open_first history line s start) s start (below-first history line older s start few c.loop-p.invariant.below));
     }
 
 pub returns : goal.returns
 returns c =
-    let all : c.loop-sender.sender ≡ length c.args.history.now.processes = omega (arith, c.n-n.ensures.value) in
+    let all : c.loop-p.p ≡ length c.args.history.now.processes = omega (arith, c.n-n.ensures.value) in
     record {
-      count = c.loop-sender.invariant.moved ∙ all;
-      before = c.loop-sender.invariant.before;
-      held = λ p l. c.loop-sender.invariant.held p (omega (arith, l, all));
-      order = c.loop-sender.invariant.below.order;
-      each = c.loop-sender.invariant.below.each;
+      count = c.loop-p.invariant.moved ∙ all;
+      before = c.loop-p.invariant.before;
+      held = λ p l. c.loop-p.invariant.held p (omega (arith, l, all));
+      order = c.loop-p.invariant.below.order;
+      each = c.loop-p.invariant.below.each;
     }

@@ -3,5 +3,5 @@ use Rattle.std.specs.List.{flat_map, range_with_len}
 use Rattle.line_tape.specs.Transit.{Letter, open_letters}
 use Rattle.line_catalogue.proofs.transits.find_transit.Given as goal
 
-abbrev pub invariant-loop-sender : goal.invariant-loop-sender
-invariant-loop-sender l = l.messages.items ≡ flat_map (λ p. map (λ (letter : Letter). letter.message) (open_letters l.history.processes l.line p)) (range_with_len 0 l.sender)
+abbrev pub invariant-loop-p : goal.invariant-loop-p
+invariant-loop-p l = l.messages.items ≡ flat_map (λ p. map (λ (letter : Letter). letter.message) (open_letters l.history.processes l.line p)) (range_with_len 0 l.p)

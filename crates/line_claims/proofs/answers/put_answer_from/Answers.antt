@@ -6,7 +6,7 @@ use Rattle.line_fields.specs.Texts.{record_text}
 use Rattle.line_tape.specs.History.{Process}
 use Rattle.line_claims.specs.Claims.{Claim}
 use Rattle.line_claims.specs.Records.{end_record, floors_at, in_order, whole_claim}
-use Rattle.line_claims.proofs.WriteLemmas.{failed_next, front_first, line_next, marks_next, out_last, passes_next, replays_next, starts_next}
+use Rattle.line_claims.proofs.WriteLemmas.{claim_next, front_first, out_last, replays_next, starts_next}
 use Rattle.line_claims.proofs.answers.put_answer_from.Goals as goal
 
 pub returns-in_err-put_history_from : goal.returns-in_err-put_history_from
@@ -16,43 +16,13 @@ returns-in_err-put_history_from g c =
     let claim : Claim = whole_claim history (in_order history c.args.claim.now.marks.now) c.args.claim.now.failed.now c.args.claim.now.line.now c.args.claim.now.certificate.now in
     out_front _ _ _ _ _ (front_first 4 floors history claim) (out_none _ _ _ _) c.in_err-put_history_from.ensures.put c.from_residual.ensures.1
 
-pub returns-in_err-put_marks : goal.returns-in_err-put_marks
-returns-in_err-put_marks g c =
+pub returns-in_err-put_claim : goal.returns-in_err-put_claim
+returns-in_err-put_claim g c =
     let history : List Process = c.args.history.now.processes in
     let floors : List (ℕ × ℕ) = floors_at (length history) c.args.floor.now.checks.now c.args.floor.now.sends.now in
     let claim : Claim = whole_claim history (in_order history c.args.claim.now.marks.now) c.args.claim.now.failed.now c.args.claim.now.line.now c.args.claim.now.certificate.now in
     let front = out_more _ _ (front_first 4 floors history claim) (out_none _ _ _ _) c.in_ok-put_history_from.ensures.put in
-    out_front _ _ _ _ _ (marks_next (length history) claim) front c.in_err-put_marks.ensures c.from_residual-in_err-put_marks.ensures.1
-
-pub returns-in_err-put_failed : goal.returns-in_err-put_failed
-returns-in_err-put_failed g c =
-    let history : List Process = c.args.history.now.processes in
-    let floors : List (ℕ × ℕ) = floors_at (length history) c.args.floor.now.checks.now c.args.floor.now.sends.now in
-    let claim : Claim = whole_claim history (in_order history c.args.claim.now.marks.now) c.args.claim.now.failed.now c.args.claim.now.line.now c.args.claim.now.certificate.now in
-    let front = out_more _ _ (front_first 4 floors history claim) (out_none _ _ _ _) c.in_ok-put_history_from.ensures.put in
-    let marks = out_more _ _ (marks_next (length history) claim) front c.in_ok-put_marks.ensures in
-    out_front _ _ _ _ _ (failed_next (length history) claim) marks (rw c.n.ensures.value at c.in_err-put_failed.ensures) c.from_residual-in_err-put_failed.ensures.1
-
-pub returns-in_err-put_line : goal.returns-in_err-put_line
-returns-in_err-put_line g c =
-    let history : List Process = c.args.history.now.processes in
-    let floors : List (ℕ × ℕ) = floors_at (length history) c.args.floor.now.checks.now c.args.floor.now.sends.now in
-    let claim : Claim = whole_claim history (in_order history c.args.claim.now.marks.now) c.args.claim.now.failed.now c.args.claim.now.line.now c.args.claim.now.certificate.now in
-    let front = out_more _ _ (front_first 4 floors history claim) (out_none _ _ _ _) c.in_ok-put_history_from.ensures.put in
-    let marks = out_more _ _ (marks_next (length history) claim) front c.in_ok-put_marks.ensures in
-    let failed = out_more _ _ (failed_next (length history) claim) marks (rw c.n.ensures.value at c.in_ok-put_failed.ensures) in
-    out_front _ _ _ _ _ (line_next claim) failed c.in_err-put_line.ensures c.from_residual-in_err-put_line.ensures.1
-
-pub returns-in_err-put_passes : goal.returns-in_err-put_passes
-returns-in_err-put_passes g c =
-    let history : List Process = c.args.history.now.processes in
-    let floors : List (ℕ × ℕ) = floors_at (length history) c.args.floor.now.checks.now c.args.floor.now.sends.now in
-    let claim : Claim = whole_claim history (in_order history c.args.claim.now.marks.now) c.args.claim.now.failed.now c.args.claim.now.line.now c.args.claim.now.certificate.now in
-    let front = out_more _ _ (front_first 4 floors history claim) (out_none _ _ _ _) c.in_ok-put_history_from.ensures.put in
-    let marks = out_more _ _ (marks_next (length history) claim) front c.in_ok-put_marks.ensures in
-    let failed = out_more _ _ (failed_next (length history) claim) marks (rw c.n.ensures.value at c.in_ok-put_failed.ensures) in
-    let told = out_more _ _ (line_next claim) failed c.in_ok-put_line.ensures in
-    out_front _ _ _ _ _ (passes_next claim) told c.in_err-put_passes.ensures c.from_residual-in_err-put_passes.ensures.1
+    out_front _ _ _ _ _ (claim_next (length history) claim) front c.in_err-put_claim.ensures c.from_residual-in_err-put_claim.ensures.1
 
 pub returns-in_err-put_starts : goal.returns-in_err-put_starts
 returns-in_err-put_starts g c =
@@ -60,11 +30,8 @@ returns-in_err-put_starts g c =
     let floors : List (ℕ × ℕ) = floors_at (length history) c.args.floor.now.checks.now c.args.floor.now.sends.now in
     let claim : Claim = whole_claim history (in_order history c.args.claim.now.marks.now) c.args.claim.now.failed.now c.args.claim.now.line.now c.args.claim.now.certificate.now in
     let front = out_more _ _ (front_first 4 floors history claim) (out_none _ _ _ _) c.in_ok-put_history_from.ensures.put in
-    let marks = out_more _ _ (marks_next (length history) claim) front c.in_ok-put_marks.ensures in
-    let failed = out_more _ _ (failed_next (length history) claim) marks (rw c.n.ensures.value at c.in_ok-put_failed.ensures) in
-    let told = out_more _ _ (line_next claim) failed c.in_ok-put_line.ensures in
-    let passes = out_more _ _ (passes_next claim) told c.in_ok-put_passes.ensures in
-    out_front _ _ _ _ _ (starts_next claim) passes c.in_err-put_starts.ensures c.from_residual-in_err-put_starts.ensures.1
+    let told = out_more _ _ (claim_next (length history) claim) front c.in_ok-put_claim.ensures in
+    out_front _ _ _ _ _ (starts_next claim) told c.in_err-put_starts.ensures c.from_residual-in_err-put_starts.ensures.1
 
 pub returns-in_err-put_replays : goal.returns-in_err-put_replays
 returns-in_err-put_replays g c =
@@ -72,11 +39,8 @@ returns-in_err-put_replays g c =
     let floors : List (ℕ × ℕ) = floors_at (length history) c.args.floor.now.checks.now c.args.floor.now.sends.now in
     let claim : Claim = whole_claim history (in_order history c.args.claim.now.marks.now) c.args.claim.now.failed.now c.args.claim.now.line.now c.args.claim.now.certificate.now in
     let front = out_more _ _ (front_first 4 floors history claim) (out_none _ _ _ _) c.in_ok-put_history_from.ensures.put in
-    let marks = out_more _ _ (marks_next (length history) claim) front c.in_ok-put_marks.ensures in
-    let failed = out_more _ _ (failed_next (length history) claim) marks (rw c.n.ensures.value at c.in_ok-put_failed.ensures) in
-    let told = out_more _ _ (line_next claim) failed c.in_ok-put_line.ensures in
-    let passes = out_more _ _ (passes_next claim) told c.in_ok-put_passes.ensures in
-    let starts = out_more _ _ (starts_next claim) passes c.in_ok-put_starts.ensures in
+    let told = out_more _ _ (claim_next (length history) claim) front c.in_ok-put_claim.ensures in
+    let starts = out_more _ _ (starts_next claim) told c.in_ok-put_starts.ensures in
     out_front _ _ _ _ _ (replays_next claim) starts c.in_err-put_replays.ensures c.from_residual-in_err-put_replays.ensures.1
 
 pub returns : goal.returns
@@ -85,10 +49,7 @@ returns g c =
     let floors : List (ℕ × ℕ) = floors_at (length history) c.args.floor.now.checks.now c.args.floor.now.sends.now in
     let claim : Claim = whole_claim history (in_order history c.args.claim.now.marks.now) c.args.claim.now.failed.now c.args.claim.now.line.now c.args.claim.now.certificate.now in
     let front = out_more _ _ (front_first 4 floors history claim) (out_none _ _ _ _) c.in_ok-put_history_from.ensures.put in
-    let marks = out_more _ _ (marks_next (length history) claim) front c.in_ok-put_marks.ensures in
-    let failed = out_more _ _ (failed_next (length history) claim) marks (rw c.n.ensures.value at c.in_ok-put_failed.ensures) in
-    let told = out_more _ _ (line_next claim) failed c.in_ok-put_line.ensures in
-    let passes = out_more _ _ (passes_next claim) told c.in_ok-put_passes.ensures in
-    let starts = out_more _ _ (starts_next claim) passes c.in_ok-put_starts.ensures in
+    let told = out_more _ _ (claim_next (length history) claim) front c.in_ok-put_claim.ensures in
+    let starts = out_more _ _ (starts_next claim) told c.in_ok-put_starts.ensures in
     let replays = out_more _ _ (replays_next claim) starts c.in_ok-put_replays.ensures in
     out_last (record_text end_record) (one_text end_record) replays c.put_numbers.ensures

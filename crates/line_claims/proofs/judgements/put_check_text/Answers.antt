@@ -5,7 +5,7 @@ use Rattle.line_fields.specs.Texts.{record_text}
 use Rattle.line_tape.specs.History.{Process}
 use Rattle.line_claims.specs.Claims.{Claim}
 use Rattle.line_claims.specs.Records.{end_record, in_order, line_claim, version_of}
-use Rattle.line_claims.proofs.WriteLemmas.{failed_next, front_first, line_next, marks_next, out_last, passes_next}
+use Rattle.line_claims.proofs.WriteLemmas.{claim_next, front_first, out_last}
 use Rattle.line_claims.proofs.judgements.put_check_text.Goals as goal
 
 pub returns-in_err-put_history : goal.returns-in_err-put_history
@@ -14,47 +14,17 @@ returns-in_err-put_history g c =
     let claim : Claim = line_claim (in_order history c.args.claim.now.marks.now) c.args.claim.now.failed.now c.args.claim.now.line.now c.args.claim.now.certificate.now in
     out_front _ _ _ _ _ (front_first (version_of claim.marks) [] history claim) (out_none _ _ _ _) (rw c.version_of-version.ensures at c.in_err-put_history.ensures.put) c.from_residual.ensures.1
 
-pub returns-in_err-put_marks : goal.returns-in_err-put_marks
-returns-in_err-put_marks g c =
+pub returns-in_err-put_claim : goal.returns-in_err-put_claim
+returns-in_err-put_claim g c =
     let history : List Process = c.args.history.now.processes in
     let claim : Claim = line_claim (in_order history c.args.claim.now.marks.now) c.args.claim.now.failed.now c.args.claim.now.line.now c.args.claim.now.certificate.now in
     let front = out_more _ _ (front_first (version_of claim.marks) [] history claim) (out_none _ _ _ _) (rw c.version_of-version.ensures at c.in_ok-put_history.ensures.put) in
-    out_front _ _ _ _ _ (marks_next (length history) claim) front c.in_err-put_marks.ensures c.from_residual-in_err-put_marks.ensures.1
-
-pub returns-in_err-put_failed : goal.returns-in_err-put_failed
-returns-in_err-put_failed g c =
-    let history : List Process = c.args.history.now.processes in
-    let claim : Claim = line_claim (in_order history c.args.claim.now.marks.now) c.args.claim.now.failed.now c.args.claim.now.line.now c.args.claim.now.certificate.now in
-    let front = out_more _ _ (front_first (version_of claim.marks) [] history claim) (out_none _ _ _ _) (rw c.version_of-version.ensures at c.in_ok-put_history.ensures.put) in
-    let marks = out_more _ _ (marks_next (length history) claim) front c.in_ok-put_marks.ensures in
-    out_front _ _ _ _ _ (failed_next (length history) claim) marks (rw c.n.ensures.value at c.in_err-put_failed.ensures) c.from_residual-in_err-put_failed.ensures.1
-
-pub returns-in_err-put_line : goal.returns-in_err-put_line
-returns-in_err-put_line g c =
-    let history : List Process = c.args.history.now.processes in
-    let claim : Claim = line_claim (in_order history c.args.claim.now.marks.now) c.args.claim.now.failed.now c.args.claim.now.line.now c.args.claim.now.certificate.now in
-    let front = out_more _ _ (front_first (version_of claim.marks) [] history claim) (out_none _ _ _ _) (rw c.version_of-version.ensures at c.in_ok-put_history.ensures.put) in
-    let marks = out_more _ _ (marks_next (length history) claim) front c.in_ok-put_marks.ensures in
-    let failed = out_more _ _ (failed_next (length history) claim) marks (rw c.n.ensures.value at c.in_ok-put_failed.ensures) in
-    out_front _ _ _ _ _ (line_next claim) failed c.in_err-put_line.ensures c.from_residual-in_err-put_line.ensures.1
-
-pub returns-in_err-put_passes : goal.returns-in_err-put_passes
-returns-in_err-put_passes g c =
-    let history : List Process = c.args.history.now.processes in
-    let claim : Claim = line_claim (in_order history c.args.claim.now.marks.now) c.args.claim.now.failed.now c.args.claim.now.line.now c.args.claim.now.certificate.now in
-    let front = out_more _ _ (front_first (version_of claim.marks) [] history claim) (out_none _ _ _ _) (rw c.version_of-version.ensures at c.in_ok-put_history.ensures.put) in
-    let marks = out_more _ _ (marks_next (length history) claim) front c.in_ok-put_marks.ensures in
-    let failed = out_more _ _ (failed_next (length history) claim) marks (rw c.n.ensures.value at c.in_ok-put_failed.ensures) in
-    let line = out_more _ _ (line_next claim) failed c.in_ok-put_line.ensures in
-    out_front _ _ _ _ _ (passes_next claim) line c.in_err-put_passes.ensures c.from_residual-in_err-put_passes.ensures.1
+    out_front _ _ _ _ _ (claim_next (length history) claim) front c.in_err-put_claim.ensures c.from_residual-in_err-put_claim.ensures.1
 
 pub returns : goal.returns
 returns g c =
     let history : List Process = c.args.history.now.processes in
     let claim : Claim = line_claim (in_order history c.args.claim.now.marks.now) c.args.claim.now.failed.now c.args.claim.now.line.now c.args.claim.now.certificate.now in
     let front = out_more _ _ (front_first (version_of claim.marks) [] history claim) (out_none _ _ _ _) (rw c.version_of-version.ensures at c.in_ok-put_history.ensures.put) in
-    let marks = out_more _ _ (marks_next (length history) claim) front c.in_ok-put_marks.ensures in
-    let failed = out_more _ _ (failed_next (length history) claim) marks (rw c.n.ensures.value at c.in_ok-put_failed.ensures) in
-    let line = out_more _ _ (line_next claim) failed c.in_ok-put_line.ensures in
-    let passes = out_more _ _ (passes_next claim) line c.in_ok-put_passes.ensures in
-    out_last (record_text end_record) (one_text end_record) passes c.put_numbers.ensures
+    let told = out_more _ _ (claim_next (length history) claim) front c.in_ok-put_claim.ensures in
+    out_last (record_text end_record) (one_text end_record) told c.put_numbers.ensures

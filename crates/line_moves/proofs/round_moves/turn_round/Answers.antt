@@ -1,13 +1,22 @@
 -- The round that is kept as open is the one that is turned to.
 use Rattle.std.proofs.Common.{◌≡◌, ◌++◌, ◌∷◌, [], ℕ, List, sym, ap, ◌∙◌, subst, arith}
+use Rattle.std.specs.Prelude.{All}
 use Rattle.line_tape.specs.History.{Process, tape_at}
 use Rattle.line_tape.specs.Rounds.{has_check_of}
 use Rattle.line_colours.specs.Turning.{TurningView, IsTurning}
 use Rattle.line_steps.specs.declared.modes.Mode.TheVariants.{Unordered}
-use Rattle.line_moves.specs.Listed.{ListedRound, listed_round}
+use Rattle.line_moves.specs.Listed.{ListedRound, listed_round, IsSnapshotOf}
 use Rattle.line_moves.specs.Openings.{opened_turning, IsCountedAtRound}
 use Rattle.line_moves.proofs.TurnFacts.{closed_round, open_round, round_counted, same_round}
 use Rattle.line_moves.proofs.round_moves.turn_round.Goals as goal
+
+pub settle-requires : goal.settle-requires
+settle-requires c =
+    subst (λ (h : List Process). All (IsSnapshotOf h) c.args.rounds.now.items) (sym c.history.ensures.processes) c.requires.rounds
+
+pub take_turn-requires-clause-rounds : goal.take_turn-requires-clause-rounds
+take_turn-requires-clause-rounds c =
+    subst (All (IsSnapshotOf c.args.catalogue.now.processes)) (sym (c.as_slice-listed.ensures ∙ c.reserve.ensures.items ∙ c.settle.ensures)) c.requires.rounds
 
 pub take_turn-requires-clause-first : goal.take_turn-requires-clause-first
 take_turn-requires-clause-first c =
@@ -26,17 +35,17 @@ take_turn-requires-clause-turning c = (open_round c.args.catalogue.now.processes
 pub of_turning-requires-clause-turning : goal.of_turning-requires-clause-turning
 of_turning-requires-clause-turning c =
     let same = same_round c.take.result c.take_turn.new.turning c.in-Some-take.round c.take.ensures.value c.in-Some-take.is in
-    subst (λ (h : List Process). IsTurning h c.in-Some-take.round) (sym c.history.ensures.processes)
+    subst (λ (h : List Process). IsTurning h c.in-Some-take.round) (sym c.history-in-Some-take.ensures.processes)
     (subst (λ (t : TurningView). IsTurning c.take_turn.new.catalogue.processes t) same c.in_ok-check-in-Some.ensures.turning)
 
 pub of_turning-requires-clause-completed : goal.of_turning-requires-clause-completed
 of_turning-requires-clause-completed c =
-    (round_counted c.take_turn.new.catalogue.processes c.history.result.now.processes c.take_turn.new.turning c.in-Some-take.round c.in_ok-check-in-Some.channels c.in-Some-channels.channels (sym c.history.ensures.processes)
+    (round_counted c.take_turn.new.catalogue.processes c.history-in-Some-take.result.now.processes c.take_turn.new.turning c.in-Some-take.round c.in_ok-check-in-Some.channels c.in-Some-channels.channels (sym c.history-in-Some-take.ensures.processes)
     (same_round c.take.result c.take_turn.new.turning c.in-Some-take.round c.take.ensures.value c.in-Some-take.is) c.in-Some-channels.is c.in_ok-check-in-Some.ensures.channels).0
 
 pub of_turning-requires-clause-channels : goal.of_turning-requires-clause-channels
 of_turning-requires-clause-channels c =
-    (round_counted c.take_turn.new.catalogue.processes c.history.result.now.processes c.take_turn.new.turning c.in-Some-take.round c.in_ok-check-in-Some.channels c.in-Some-channels.channels (sym c.history.ensures.processes)
+    (round_counted c.take_turn.new.catalogue.processes c.history-in-Some-take.result.now.processes c.take_turn.new.turning c.in-Some-take.round c.in_ok-check-in-Some.channels c.in-Some-channels.channels (sym c.history-in-Some-take.ensures.processes)
     (same_round c.take.result c.take_turn.new.turning c.in-Some-take.round c.take.ensures.value c.in-Some-take.is) c.in-Some-channels.is c.in_ok-check-in-Some.ensures.channels).1
 
 pub returns-in-Some-take-clause-settled : goal.returns-in-Some-take-clause-settled
@@ -52,9 +61,9 @@ returns-in-Some-take-clause-settled c =
       number_is = c.in_ok-check-in-Some.ensures.number ∙ (open_round c.args.catalogue.now.processes c.args._round c.args.turning.now c.in-Some.round c.in-Some.is c.requires.kept).0;
       follows = c.in_ok-check-in-Some.ensures.turning;
       listed = c.push.ensures
-          ∙ ap (λ (ls : List ListedRound). ls ++ c.of_turning.result ∷ []) c.reserve.ensures.items
+          ∙ ap (λ (ls : List ListedRound). ls ++ c.of_turning.result ∷ []) (c.reserve.ensures.items ∙ c.settle.ensures)
           ∙ ap (λ (l : ListedRound). before ++ l ∷ []) (c.of_turning.ensures
-          ∙ ap (λ (h : List Process). listed_round Unordered h c.in-Some-take.round.number) c.history.ensures.processes
+          ∙ ap (λ (h : List Process). listed_round Unordered h c.in-Some-take.round.number) c.history-in-Some-take.ensures.processes
           ∙ ap (λ (t : TurningView). listed_round Unordered after t.number) same)
           ∙ ap (λ (ls : List ListedRound). before ++ ls) (sym closed.0);
       left = ap opened_turning c.take.ensures.after ∙ sym closed.1;

@@ -31,12 +31,12 @@ returns-clause-led c =
     let marks : MarksView = c.args.catalogue.now.marks in
     let failed : List Bool = c.args.failed.now in
     let line : List Choice = c.args.line.now in
-    let lower : c.unwrap-next.result ≡ next_lower history marks failed c.args.at (choice_at line c.args.at) = (rw c.unwrap-next.ensures at c.next_lower.ensures.value).1 ∙ ap (next_lower history marks failed c.args.at) c.at-choice.ensures in
-    let after : c.set.new.self ≡ lowered_ceilings history marks failed line c.args.at = c.set.ensures ∙ ap (set line c.args.at) lower in
+    let lower : c.unwrap-next.result ≡ next_lower history marks failed c.args.orphan.at (choice_at line c.args.orphan.at) = (rw c.unwrap-next.ensures at c.next_lower.ensures.value).1 ∙ ap (next_lower history marks failed c.args.orphan.at) c.at-choice.ensures in
+    let after : c.set.new.self ≡ lowered_ceilings history marks failed line c.args.orphan.at = c.set.ensures ∙ ap (set line c.args.orphan.at) lower in
     let entries : List Passed = c.args.certificate.now.items in
-    let entry : Passed = record { at = c.args.at; choice = c.at-choice.result; message = c.args.message } in
-    let top : c.at-choice.result ≡ choice_at line c.args.at = cc in
-    let led : IsLed history marks failed (entries ++ entry ∷ []) (lowered_ceilings history marks failed line c.args.at) = LeadsTo-push history marks failed (first_ceilings history marks failed) entries line entry c.requires.led (record { top = top; orphan = c.requires.orphan }) in
+    let entry : Passed = record { at = c.args.orphan.at; choice = c.at-choice.result; message = c.args.orphan.message } in
+    let top : c.at-choice.result ≡ choice_at line c.args.orphan.at = cc in
+    let led : IsLed history marks failed (entries ++ entry ∷ []) (lowered_ceilings history marks failed line c.args.orphan.at) = LeadsTo-push history marks failed (first_ceilings history marks failed) entries line entry c.requires.led (record { top = top; orphan = c.requires.orphan }) in
     let items : c.push.new.self.items ≡ entries ++ entry ∷ [] = c.in_ok-push.ensures.items in
     subst (λ (es : List Passed). IsLed history marks failed es c.set.new.self) (sym items) (subst (IsLed history marks failed (entries ++ entry ∷ [])) (sym after) led)
 
@@ -46,16 +46,16 @@ returns-clause-lower c =
     let marks : MarksView = c.args.catalogue.now.marks in
     let failed : List Bool = c.args.failed.now in
     let line : List Choice = c.args.line.now in
-    let lower : c.unwrap-next.result ≡ next_lower history marks failed c.args.at (choice_at line c.args.at) = (rw c.unwrap-next.ensures at c.next_lower.ensures.value).1 ∙ ap (next_lower history marks failed c.args.at) c.at-choice.ensures in
-    let after : c.set.new.self ≡ lowered_ceilings history marks failed line c.args.at = c.set.ensures ∙ ap (set line c.args.at) lower in
+    let lower : c.unwrap-next.result ≡ next_lower history marks failed c.args.orphan.at (choice_at line c.args.orphan.at) = (rw c.unwrap-next.ensures at c.next_lower.ensures.value).1 ∙ ap (next_lower history marks failed c.args.orphan.at) c.at-choice.ensures in
+    let after : c.set.new.self ≡ lowered_ceilings history marks failed line c.args.orphan.at = c.set.ensures ∙ ap (set line c.args.orphan.at) lower in
     let is_line : IsLine history line = IsLine-led history marks failed c.args.certificate.now.items line c.requires.led in
-    subst (λ (xs : List Choice). height history xs < height history line) (sym after) (height-lowered history marks failed line c.args.at c.args.message c.requires.process is_line.length_is c.requires.orphan)
+    subst (λ (xs : List Choice). height history xs < height history line) (sym after) (height-lowered history marks failed line c.args.orphan.at c.args.orphan.message c.requires.process is_line.length_is c.requires.orphan)
 
 pub returns-clause-sent : goal.returns-clause-sent
 returns-clause-sent c =
     let history : List Process = c.args.catalogue.now.processes in
     let line : List Choice = c.args.line.now in
-    let at : ℕ = c.args.at in
+    let at : ℕ = c.args.orphan.at in
     let next : Choice = c.unwrap-next.result in
     let is_line : IsLine history line = IsLine-led history c.args.catalogue.now.marks c.args.failed.now c.args.certificate.now.items line c.requires.led in
     let tape : c.tape.result.now.events ≡ tape_at history at = c.tape.ensures.events ∙ ap (λ (h : List Process). tape_at h at) c.history.ensures.processes in
@@ -68,7 +68,7 @@ returns-clause-earlier c =
     let marks : MarksView = c.args.catalogue.now.marks in
     let failed : List Bool = c.args.failed.now in
     let line : List Choice = c.args.line.now in
-    let at : ℕ = c.args.at in
+    let at : ℕ = c.args.orphan.at in
     let lower : c.unwrap-next.result ≡ next_lower history marks failed at (choice_at line at) = (rw c.unwrap-next.ensures at c.next_lower.ensures.value).1 ∙ ap (next_lower history marks failed at) c.at-choice.ensures in
     let is_line : IsLine history line = IsLine-led history marks failed c.args.certificate.now.items line c.requires.led in
     let there : choice_at c.set.new.self at ≡ next_lower history marks failed at (choice_at line at) =

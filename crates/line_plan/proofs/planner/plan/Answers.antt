@@ -53,9 +53,9 @@ sweeps-init c =
     let line : List Choice = c.first_ceilings-line.result in
     record {
       led = subst (λ (es : List Passed). IsLed history marks failed es line) (sym c.new-certificate.ensures.items) (sym c.first_ceilings-line.ensures);
-      sent = c.in_ok-sent.ensures;
+      sent = c.in_ok-sents_before.ensures;
       clean = λ q within none.
-          let all : is_member c.everyone-dirty.result q ≡ true = ap (λ set. is_member set q) c.everyone-dirty.ensures ∙ get_or-replicate MOST_PROCESSES q true false (omega (arith, within, c.n-n.ensures.limits.few)) in
+          let all : is_member c.everyone.result q ≡ true = ap (λ set. is_member set q) c.everyone.ensures ∙ get_or-replicate MOST_PROCESSES q true false (omega (arith, within, c.n-n.ensures.limits.few)) in
           absurd (false≢true (sym none ∙ all));
       due = λ q within there. inl c.new-certificate.ensures.items;
       swept = ap (λ (es : List Passed). sweeps_with_entries es) c.new-certificate.ensures.items;

@@ -9,9 +9,9 @@ use Rattle.line_plan.proofs.planner.plan.Given as goal
 abbrev pub invariant-sweeps : goal.invariant-sweeps
 invariant-sweeps l = record {
   led : IsLed l.catalogue.processes l.catalogue.marks l.failed l.certificate.items l.line;
-  sent : l.sent ≡ sents_of l.catalogue.processes l.line;
-  clean : AreClean l.catalogue.processes l.line l.dirty;
-  due : AreOfNextSweep (length l.catalogue.processes) l.certificate.items l.dirty;
+  sent : l.visits.sent ≡ sents_of l.catalogue.processes l.line;
+  clean : AreClean l.catalogue.processes l.line l.visits.dirty;
+  due : AreOfNextSweep (length l.catalogue.processes) l.certificate.items l.visits.dirty;
   swept : sweeps_with_entries l.certificate.items ≡ l.sweeps;
   few : l.sweeps ≤ vec_len l.certificate;
   paid : vec_len l.certificate + height l.catalogue.processes l.line ≤ height l.catalogue.processes (first_ceilings l.catalogue.processes l.catalogue.marks l.failed);

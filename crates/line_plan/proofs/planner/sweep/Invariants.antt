@@ -8,9 +8,9 @@ use Rattle.line_plan.proofs.planner.sweep.Given as goal
 abbrev pub invariant-loop-q : goal.invariant-loop-q
 invariant-loop-q l = record {
   led : IsLed l.catalogue.processes l.catalogue.marks l.failed l.certificate.items l.line;
-  sent : l.sent ≡ sents_of l.catalogue.processes l.line;
-  clean : AreClean l.catalogue.processes l.line l.dirty;
+  sent : l.visits.sent ≡ sents_of l.catalogue.processes l.line;
+  clean : AreClean l.catalogue.processes l.line l.visits.dirty;
   moved : IsMoved l.catalogue.processes l.initial.line (vec_len l.initial.certificate) l.lowered l.line (vec_len l.certificate);
-  sweeping : IsSweeping (length l.catalogue.processes) l.initial.certificate.items l.q l.lowered l.certificate.items l.dirty;
+  sweeping : IsSweeping (length l.catalogue.processes) l.initial.certificate.items l.q l.lowered l.certificate.items l.visits.dirty;
   none : l.lowered ≡ false → AreSentBelow l.catalogue.processes l.line l.q;
 }

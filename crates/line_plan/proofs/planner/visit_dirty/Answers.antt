@@ -38,16 +38,16 @@ returns-clause-clean c q within none =
     let new : List Choice = c.visit.new.line in
     let at : ℕ = c.args.at in
     let is_line : IsLine history old = IsLine-led history c.args.catalogue.now.marks c.args.failed.now c.args.certificate.now.items old c.requires.led in
-    let before : AreCleanBut history old c.args.dirty.now at = λ k inside apart clean. c.requires.clean k inside clean in
-    let after : AreCleanBut history new c.if-lowered.dirty at = elim c.if-lowered.branch [
+    let before : AreCleanBut history old c.args.visits.now.dirty at = λ k inside apart clean. c.requires.clean k inside clean in
+    let after : AreCleanBut history new c.if-lowered.visits.dirty at = elim c.if-lowered.branch [
       | then-lowered w ↦
           let tape : w.tape.result.now.events ≡ tape_at history at = w.tape.ensures.events ∙ ap (λ (h : List Process). tape_at h at) w.history.ensures.processes in
           let count : w.sends_before-count.result ≡ sends (front (tape_at history at) (choice_at new at)) = w.sends_before-count.ensures ∙ ap (λ (t : List Event). sends (front t w.at.result)) tape ∙ ap (λ (x : Choice). sends (front (tape_at history at) x)) w.at.ensures in
           let heard : AreHearersDirty history at (sends (front (tape_at history at) (choice_at new at))) w.mark_hearers.new.dirty = subst (λ k. AreHearersDirty history at k w.mark_hearers.new.dirty) count w.mark_hearers.ensures.heard in
-          let clean : AreCleanBut history (set old at (choice_at new at)) w.mark_hearers.new.dirty at = clean-lowered history old at (choice_at new at) is_line.length_is c.args.dirty.now w.mark_hearers.new.dirty c.requires.process w.history.ensures.agrees w.mark_hearers.ensures.still heard before in
-          subst (λ (d : List Bool). AreCleanBut history new d at) (sym w.dirty-is) (subst (λ (l : List Choice). AreCleanBut history l w.mark_hearers.new.dirty at) (sym c.in_ok-lowered.ensures.alone) clean)
+          let clean : AreCleanBut history (set old at (choice_at new at)) w.mark_hearers.new.dirty at = clean-lowered history old at (choice_at new at) is_line.length_is c.args.visits.now.dirty w.mark_hearers.new.dirty c.requires.process w.history.ensures.agrees w.mark_hearers.ensures.still heard before in
+          subst (λ (d : List Bool). AreCleanBut history new d at) (sym (ap (λ v. v.dirty) w.visits-is)) (subst (λ (l : List Choice). AreCleanBut history l w.mark_hearers.new.dirty at) (sym c.in_ok-lowered.ensures.alone) clean)
       | else-lowered w ↦
-          subst (λ (d : List Bool). AreCleanBut history new d at) (sym w.dirty-is) (subst (λ (l : List Choice). AreCleanBut history l c.args.dirty.now at) (sym (c.in_ok-lowered.ensures.moved.same_line w.if-lowered.false)) before)
+          subst (λ (d : List Bool). AreCleanBut history new d at) (sym (ap (λ v. v.dirty) w.visits-is)) (subst (λ (l : List Choice). AreCleanBut history l c.args.visits.now.dirty at) (sym (c.in_ok-lowered.ensures.moved.same_line w.if-lowered.false)) before)
     ] in
     elim (cases_eq q at) [
       | inl here ↦ subst (λ (k : ℕ). AreSentBefore history new (events_before history new k)) (sym here) c.in_ok-lowered.ensures.none

@@ -19,8 +19,8 @@ restart-requires-clause-consistent c =
     let seen : c.self.inside.ledger.processes ≡ c.args.self.now.processes = ap (λ (v : CatalogueView). v.processes) c.self.view_is in
     subst (λ (xs : List Process). IsConsistent xs c.args.line.now) (sym seen) c.requires.consistent
 
-pub restart-requires-3-clause-count : goal.restart-requires-3-clause-count
-restart-requires-3-clause-count c =
+pub restart-requires-3 : goal.restart-requires-3
+restart-requires-3 c =
     let history : List Process = c.self.inside.ledger.processes in
     let marks : MarksView = c.self.inside.marks in
     let rows : List (List Row) = c.self.inside.rows.rows in
@@ -30,46 +30,12 @@ restart-requires-3-clause-count c =
     let is_line : IsLine history line = subst (λ (xs : List Process). IsLine xs line) (sym seen) c.requires.line in
     let left : c.history.result.now.processes ≡ restarted_history history line = ap (λ (v : HistoryView). v.processes) c.history.ensures ∙ c.restart.ensures.processes in
     let same : length c.history.result.now.processes ≡ length history = ap (λ (xs : List Process). length xs) left ∙ length-restarted history line is_line in
-    c.self.invariant.rows_count ∙ sym same
-
-pub restart-requires-3-clause-there : goal.restart-requires-3-clause-there
-restart-requires-3-clause-there c =
-    let history : List Process = c.self.inside.ledger.processes in
-    let marks : MarksView = c.self.inside.marks in
-    let rows : List (List Row) = c.self.inside.rows.rows in
-    let presents : List (List ℕ) = c.self.inside.rows.presents in
-    let line : List Choice = c.args.line.now in
-    let seen : history ≡ c.args.self.now.processes = ap (λ (v : CatalogueView). v.processes) c.self.view_is in
-    let is_line : IsLine history line = subst (λ (xs : List Process). IsLine xs line) (sym seen) c.requires.line in
-    let left : c.history.result.now.processes ≡ restarted_history history line = ap (λ (v : HistoryView). v.processes) c.history.ensures ∙ c.restart.ensures.processes in
-    let same : length c.history.result.now.processes ≡ length history = ap (λ (xs : List Process). length xs) left ∙ length-restarted history line is_line in
-    λ p k h at. there-restarted history marks rows presents line c.self.invariant is_line p k (omega (arith, h, same)) at
-
-pub restart-requires-3-clause-left : goal.restart-requires-3-clause-left
-restart-requires-3-clause-left c =
-    let history : List Process = c.self.inside.ledger.processes in
-    let marks : MarksView = c.self.inside.marks in
-    let rows : List (List Row) = c.self.inside.rows.rows in
-    let presents : List (List ℕ) = c.self.inside.rows.presents in
-    let line : List Choice = c.args.line.now in
-    let seen : history ≡ c.args.self.now.processes = ap (λ (v : CatalogueView). v.processes) c.self.view_is in
-    let is_line : IsLine history line = subst (λ (xs : List Process). IsLine xs line) (sym seen) c.requires.line in
-    let left : c.history.result.now.processes ≡ restarted_history history line = ap (λ (v : HistoryView). v.processes) c.history.ensures ∙ c.restart.ensures.processes in
-    let same : length c.history.result.now.processes ≡ length history = ap (λ (xs : List Process). length xs) left ∙ length-restarted history line is_line in
-    λ p h. left-restarted history marks rows presents line c.self.invariant is_line p (omega (arith, h, same)) ∙ ap (λ (xs : List Process). checks (tape_at xs p) + 1) (sym left)
-
-pub restart-requires-3-clause-in_step : goal.restart-requires-3-clause-in_step
-restart-requires-3-clause-in_step c =
-    let history : List Process = c.self.inside.ledger.processes in
-    let marks : MarksView = c.self.inside.marks in
-    let rows : List (List Row) = c.self.inside.rows.rows in
-    let presents : List (List ℕ) = c.self.inside.rows.presents in
-    let line : List Choice = c.args.line.now in
-    let seen : history ≡ c.args.self.now.processes = ap (λ (v : CatalogueView). v.processes) c.self.view_is in
-    let is_line : IsLine history line = subst (λ (xs : List Process). IsLine xs line) (sym seen) c.requires.line in
-    let left : c.history.result.now.processes ≡ restarted_history history line = ap (λ (v : HistoryView). v.processes) c.history.ensures ∙ c.restart.ensures.processes in
-    let same : length c.history.result.now.processes ≡ length history = ap (λ (xs : List Process). length xs) left ∙ length-restarted history line is_line in
-    λ p h. subst (λ (xs : List Process). AreInStep (tape_at xs p) (rows_kept (choice_at line p) (rows_at rows p))) (sym left) (step-restarted history marks rows presents line c.self.invariant is_line p (omega (arith, h, same)))
+    record {
+      count = c.self.invariant.rows_count ∙ sym same;
+      there = λ p k h at. there-restarted history marks rows presents line c.self.invariant is_line p k (omega (arith, h, same)) at;
+      left = λ p h. left-restarted history marks rows presents line c.self.invariant is_line p (omega (arith, h, same)) ∙ ap (λ (xs : List Process). checks (tape_at xs p) + 1) (sym left);
+      in_step = λ p h. subst (λ (xs : List Process). AreInStep (tape_at xs p) (rows_kept (choice_at line p) (rows_at rows p))) (sym left) (step-restarted history marks rows presents line c.self.invariant is_line p (omega (arith, h, same)));
+    }
 
 pub invariant_of-self : goal.invariant_of-self
 invariant_of-self c =

@@ -3,16 +3,22 @@ use Rattle.std.proofs.Common.{◌<◌, ◌∙◌, ℕ, List, sym, ap, subst, ari
 use Rattle.std.proofs.lemmas.List.{get_or_default}
 use Rattle.std.proofs.lemmas.List.Sorted.{All-permutation, IsNonDecreasingBy-from_sort_by_key}
 use Rattle.line_names.specs.declared.messages.MsgName.{MsgName}
-use Rattle.line_colours.specs.Inboxes.{messages_from, AreFrom}
+use Rattle.line_colours.specs.Inboxes.{messages_from, AreFrom, AreSentBy, ComeBySender}
 use Rattle.line_colours.proofs.InboxLemmas.{bits_more, stable_sent}
 use Rattle.line_colours.proofs.inboxes.Inbox.new.Goals as goal
 
+pub new-requires : goal.new-requires
+new-requires c = IsNonDecreasingBy-from_sort_by_key (λ (m : MsgName). m.from) _
+    c.in_ok-sort_by_key.ensures.sorted (λ a r q k. search rules)
+
 pub invariant_of-result : goal.invariant_of-result
-invariant_of-result c = (
-  IsNonDecreasingBy-from_sort_by_key (λ (m : MsgName). m.from) _
-      c.in_ok-sort_by_key.ensures.sorted (λ a r q k. search rules),
-  λ k d within. c.each.invariant k d (omega (arith, within, c.each-test.false)),
-)
+invariant_of-result c =
+    subst (λ (ms : List MsgName). ComeBySender ms × AreSentBy c.each.senders ms)
+    (sym c.in_ok-by_sender.ensures) (
+      IsNonDecreasingBy-from_sort_by_key (λ (m : MsgName). m.from) _
+          c.in_ok-sort_by_key.ensures.sorted (λ a r q k. search rules),
+      λ k d within. c.each.invariant k d (omega (arith, within, c.each-test.false)),
+    )
 
 pub each-preserved : goal.each-preserved
 each-preserved c =
@@ -25,16 +31,20 @@ each-preserved c =
 
 pub returns-clause-same : goal.returns-clause-same
 returns-clause-same c = λ p.
-    stable_sent c.in_ok-messages.messages.items c.sort_by_key.new.self.items
+    ap (messages_from p) c.in_ok-by_sender.ensures
+    ∙ stable_sent c.in_ok-messages.messages.items c.sort_by_key.new.self.items
     c.in_ok-sort_by_key.ensures.stable (λ a r q k. search rules) p
     ∙ ap (messages_from p) c.in_ok-messages.ensures.items
 
 pub returns-clause-by_sender : goal.returns-clause-by_sender
-returns-clause-by_sender c = IsNonDecreasingBy-from_sort_by_key (λ (m : MsgName). m.from) _
-    c.in_ok-sort_by_key.ensures.sorted (λ a r q k. search rules)
+returns-clause-by_sender c =
+    subst ComeBySender (sym c.in_ok-by_sender.ensures)
+    (IsNonDecreasingBy-from_sort_by_key (λ (m : MsgName). m.from) _
+    c.in_ok-sort_by_key.ensures.sorted (λ a r q k. search rules))
 
 pub returns-clause-from : goal.returns-clause-from
 returns-clause-from c = λ n all.
-    All-permutation (λ (m : MsgName). m.from < n) c.in_ok-messages.messages.items
+    subst (AreFrom n) (sym c.in_ok-by_sender.ensures)
+    (All-permutation (λ (m : MsgName). m.from < n) c.in_ok-messages.messages.items
     c.sort_by_key.new.self.items c.in_ok-sort_by_key.ensures.permutation
-    (subst (AreFrom n) (sym c.in_ok-messages.ensures.items) all)
+    (subst (AreFrom n) (sym c.in_ok-messages.ensures.items) all))

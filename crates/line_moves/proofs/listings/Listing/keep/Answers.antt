@@ -25,6 +25,6 @@ returns c =
           ap (stays line) (sym (w.index.ensures ∙ get_or_default rounds (end - 1) w.index.result.now d (omega (arith, some, c.cut.invariant.0)))) ∙ sym w.stays.ensures ∙ w.if-not-stays.false
       | else-cut-test w ↦ absurd (omega (arith, some, w.cut-test.false))
     ] in
-    c.truncate.ensures.items
+    c.truncate-2.ensures.items
     ∙ sym (staying-are line rounds end (c.self.invariant climbs) c.cut.invariant.0 last c.cut.invariant.1)
     ∙ ap (λ (l : ListingView). filter (stays line) l.items) c.self.view_is

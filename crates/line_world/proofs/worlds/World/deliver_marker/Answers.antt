@@ -34,11 +34,11 @@ use Rattle.line_world.proofs.worlds.World.deliver_marker.Goals as goal
 pub is_forced-forced-requires-clause-sent : goal.is_forced-forced-requires-clause-sent
 is_forced-forced-requires-clause-sent c =
     let w : Inside = c.self.inside in
-    let from : ℕ = c.args.from in
-    let to : ℕ = c.args.to in
+    let from : ℕ = c.args.place.from in
+    let to : ℕ = c.args.place.to in
     let round : ℕ = c.args.round in
     let is : IsInOrder w c.in-Markers.running = is_in_order w c.args.self.now c.self.view_is c.self.invariant c.in-Markers.running c.in-Markers.is in
-    let p : IsPicked w from to c.args.pick (Marker round) = is_picked w c.args.self.now c.self.view_is c.self.invariant from to c.args.pick c.args.state.now c.requires.passed (Marker round) c.requires.picked in
+    let p : IsPicked w from to c.args.place.pick (Marker round) = is_picked w c.args.self.now c.self.view_is c.self.invariant from to c.args.place.pick c.args.state.now c.requires.passed (Marker round) c.requires.picked in
     ap (λ (h : List Process). has_check_of round (tape_at h from)) c.history.ensures.processes ∙ marker_sent w.catalogue.processes w.links is.world from to round p.from_in p.to_in p.apart (ap (slice_get (between w.links from to)) (sym (p.first is.mode_is)) ∙ p.at)
 
 pub invariant_of-self-in_err-take_marker-in-Markers : goal.invariant_of-self-in_err-take_marker-in-Markers
@@ -59,12 +59,12 @@ invariant_of-self-in-Markers c =
     let history : List Process = w.catalogue.processes in
     let last : ℕ = w.last_round in
     let rounds : List ListedRound = w.rounds.items in
-    let from : ℕ = c.args.from in
-    let to : ℕ = c.args.to in
+    let from : ℕ = c.args.place.from in
+    let to : ℕ = c.args.place.to in
     let round : ℕ = c.args.round in
     let state : List ℕ = c.args.state.now in
     let is : IsInOrder w c.in-Markers.running = is_in_order w c.args.self.now c.self.view_is c.self.invariant c.in-Markers.running c.in-Markers.is in
-    let p : IsPicked w from to c.args.pick (Marker round) = is_picked w c.args.self.now c.self.view_is c.self.invariant from to c.args.pick state c.requires.passed (Marker round) c.requires.picked in
+    let p : IsPicked w from to c.args.place.pick (Marker round) = is_picked w c.args.self.now c.self.view_is c.self.invariant from to c.args.place.pick state c.requires.passed (Marker round) c.requires.picked in
     let sent = marker_sent history w.links is.world from to round p.from_in p.to_in p.apart (ap (slice_get (between w.links from to)) (sym (p.first is.mode_is)) ∙ p.at) in
     let forced : Bool = c.is_forced-forced.result in
     let forced_is : forced ≡ is_forced history to round = c.is_forced-forced.ensures ∙ ap (λ (h : List Process). is_forced h to round) c.history.ensures.processes in
@@ -91,13 +91,13 @@ returns-clause-done c =
     let history : List Process = w.catalogue.processes in
     let last : ℕ = w.last_round in
     let rounds : List ListedRound = w.rounds.items in
-    let from : ℕ = c.args.from in
-    let to : ℕ = c.args.to in
+    let from : ℕ = c.args.place.from in
+    let to : ℕ = c.args.place.to in
     let round : ℕ = c.args.round in
     let state : List ℕ = c.args.state.now in
     let machine : Machine = c.args.self.now in
     let is : IsInOrder w c.in-Markers.running = is_in_order w machine c.self.view_is c.self.invariant c.in-Markers.running c.in-Markers.is in
-    let p : IsPicked w from to c.args.pick (Marker round) = is_picked w machine c.self.view_is c.self.invariant from to c.args.pick state c.requires.passed (Marker round) c.requires.picked in
+    let p : IsPicked w from to c.args.place.pick (Marker round) = is_picked w machine c.self.view_is c.self.invariant from to c.args.place.pick state c.requires.passed (Marker round) c.requires.picked in
     let sent = marker_sent history w.links is.world from to round p.from_in p.to_in p.apart (ap (slice_get (between w.links from to)) (sym (p.first is.mode_is)) ∙ p.at) in
     let forced : Bool = c.is_forced-forced.result in
     let forced_is : forced ≡ is_forced history to round = c.is_forced-forced.ensures ∙ ap (λ (h : List Process). is_forced h to round) c.history.ensures.processes in
@@ -124,15 +124,15 @@ returns-clause-done c =
     ∙ step_seen Fifo history c.take_marker.new.catalogue.processes w.catalogue.marks c.take_marker.new.catalogue.marks last last rounds (newly_closed Fifo after running) w.links c.take_marker.new.links to
     (marker_events forced from state round) taken c.in_ok-take_marker-in-Markers.ensures.marks refl newly
     ∙ ap (λ (es : List Event). with_step old to es last) (sym events) in
-    subst (λ (v : Machine). Takes v (Deliver from to c.args.pick state) (Done (Marked round forced)) new) same
-    (subst (λ (r : Reply). Takes old (Deliver from to c.args.pick state) (Done r) new) (ap (λ b. Marked round b) (sym forced_is))
-    (Takes-delivered old from to c.args.pick state (Marker round)
-    (subst (λ (v : Machine). first_cause (link_causes v from to c.args.pick state) ≡ None) (sym same) c.requires.passed)
-    (subst (λ (v : Machine). slice_get (items_on v from to) c.args.pick ≡ Some (Marker round)) (sym same) c.requires.picked) new
+    subst (λ (v : Machine). Takes v (Deliver from to c.args.place.pick state) (Done (Marked round forced)) new) same
+    (subst (λ (r : Reply). Takes old (Deliver from to c.args.place.pick state) (Done r) new) (ap (λ b. Marked round b) (sym forced_is))
+    (Takes-delivered old from to c.args.place.pick state (Marker round)
+    (subst (λ (v : Machine). first_cause (link_causes v from to c.args.place.pick state) ≡ None) (sym same) c.requires.passed)
+    (subst (λ (v : Machine). slice_get (items_on v from to) c.args.place.pick ≡ Some (Marker round)) (sym same) c.requires.picked) new
     (ap (λ (es : List Event). is_full old to (length es)) events ∙ ap (is_full old to) count
     ∙ ap (λ (h : List Process). nat_lt MOST_EVENTS (length (tape_at h to) + c.if-forced.events)) (sym c.history-in-Markers.ensures.processes) ∙ sym c.lacks_room.ensures ∙ c.if-lacks_room.false) steps))
 
 -- without an order no marker is on a link
 pub unreachable-requires : goal.unreachable-requires
 unreachable-requires c =
-    (is_picked c.self.inside c.args.self.now c.self.view_is c.self.invariant c.args.from c.args.to c.args.pick c.args.state.now c.requires.passed (Marker c.args.round) c.requires.picked).only (ap mode_of c.in-Colours.is)
+    (is_picked c.self.inside c.args.self.now c.self.view_is c.self.invariant c.args.place.from c.args.place.to c.args.place.pick c.args.state.now c.requires.passed (Marker c.args.round) c.requires.picked).only (ap mode_of c.in-Colours.is)

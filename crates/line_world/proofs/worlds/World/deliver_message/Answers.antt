@@ -29,7 +29,7 @@ use Rattle.line_world.proofs.worlds.World.deliver_message.Goals as goal
 
 pub fate_of-requires-clause-from : goal.fate_of-requires-clause-from
 fate_of-requires-clause-from c =
-    let picked = is_picked c.self.inside c.args.self.now c.self.view_is c.self.invariant c.args.from c.args.to c.args.pick c.args.state.now c.requires.passed (Message c.args.message.now) c.requires.picked in
+    let picked = is_picked c.self.inside c.args.self.now c.self.view_is c.self.invariant c.args.place.from c.args.place.to c.args.place.pick c.args.state.now c.requires.passed (Message c.args.message.now) c.requires.picked in
     omega (arith, picked.of_sender, picked.from_in, ap (λ (h : List Process). length h) c.history.ensures.processes)
 
 pub fate_of-requires-clause-to : goal.fate_of-requires-clause-to
@@ -38,20 +38,20 @@ fate_of-requires-clause-to c = λ held.
     let history : List Process = w.catalogue.processes in
     let m : MsgName = c.args.message.now in
     let same : c.history.result.now.processes ≡ history = c.history.ensures.processes in
-    let p : IsPicked w c.args.from c.args.to c.args.pick (Message m) =
-    is_picked w c.args.self.now c.self.view_is c.self.invariant c.args.from c.args.to c.args.pick c.args.state.now c.requires.passed (Message m) c.requires.picked in
+    let p : IsPicked w c.args.place.from c.args.place.to c.args.place.pick (Message m) =
+    is_picked w c.args.self.now c.self.view_is c.self.invariant c.args.place.from c.args.place.to c.args.place.pick c.args.state.now c.requires.passed (Message m) c.requires.picked in
     let is : IsColoured w c.in-Colours.turning c.in-Colours.colours c.in-Colours.received =
     is_coloured w c.args.self.now c.self.view_is c.self.invariant c.in-Colours.turning c.in-Colours.colours c.in-Colours.received c.in-Colours.is in
-    subst (λ (h : List Process). IsSentTo h c.args.to m) (sym same)
-    (sent_here history w.links c.args.from c.args.to m c.args.pick p.from_in p.to_in p.at is.world (subst (λ (h : List Process). Holds (tape_at h m.from) m.inc m.number) same held))
+    subst (λ (h : List Process). IsSentTo h c.args.place.to m) (sym same)
+    (sent_here history w.links c.args.place.from c.args.place.to m c.args.place.pick p.from_in p.to_in p.at is.world (subst (λ (h : List Process). Holds (tape_at h m.from) m.inc m.number) same held))
 
 pub returns-in-Stale-clause-done : goal.returns-in-Stale-clause-done
 returns-in-Stale-clause-done c =
     let w : Inside = c.self.inside in
     let history : List Process = w.catalogue.processes in
-    let from : ℕ = c.args.from in
-    let to : ℕ = c.args.to in
-    let pick : ℕ = c.args.pick in
+    let from : ℕ = c.args.place.from in
+    let to : ℕ = c.args.place.to in
+    let pick : ℕ = c.args.place.pick in
     let m : MsgName = c.args.message.now in
     let state : List ℕ = c.args.state.now in
     let is : IsColoured w c.in-Colours.turning c.in-Colours.colours c.in-Colours.received =
@@ -72,9 +72,9 @@ pub returns-in-Repeated-clause-done : goal.returns-in-Repeated-clause-done
 returns-in-Repeated-clause-done c =
     let w : Inside = c.self.inside in
     let history : List Process = w.catalogue.processes in
-    let from : ℕ = c.args.from in
-    let to : ℕ = c.args.to in
-    let pick : ℕ = c.args.pick in
+    let from : ℕ = c.args.place.from in
+    let to : ℕ = c.args.place.to in
+    let pick : ℕ = c.args.place.pick in
     let m : MsgName = c.args.message.now in
     let state : List ℕ = c.args.state.now in
     let is : IsColoured w c.in-Colours.turning c.in-Colours.colours c.in-Colours.received =
@@ -102,19 +102,19 @@ pub take_unforced-requires-clause-taken : goal.take_unforced-requires-clause-tak
 take_unforced-requires-clause-taken c =
     let w : Inside = c.self.inside in
     let m : MsgName = c.args.message.now in
-    let copy : IsTakenCopy w c.in-Colours.turning c.in-Colours.colours c.in-Colours.received c.args.from c.args.to c.args.pick m None =
-    is_taken_copy w c.args.self.now c.self.view_is c.self.invariant c.args.from c.args.to c.args.pick c.args.state.now c.requires.passed c.in-Colours.turning c.in-Colours.colours c.in-Colours.received c.in-Colours.is m c.requires.picked
+    let copy : IsTakenCopy w c.in-Colours.turning c.in-Colours.colours c.in-Colours.received c.args.place.from c.args.place.to c.args.place.pick m None =
+    is_taken_copy w c.args.self.now c.self.view_is c.self.invariant c.args.place.from c.args.place.to c.args.place.pick c.args.state.now c.requires.passed c.in-Colours.turning c.in-Colours.colours c.in-Colours.received c.in-Colours.is m c.requires.picked
     c.history.result.now.processes c.history.ensures.processes c.fate_of.result c.fate_of.ensures c.in-Taken.is c.before_receive.result c.before_receive.ensures None c.in-None.is in
-    ap (λ (h : List Process). fate_of Unordered h c.args.to m) (sym (ap (λ (v : Machine). v.history) c.self.view_is)) ∙ copy.fate
+    ap (λ (h : List Process). fate_of Unordered h c.args.place.to m) (sym (ap (λ (v : Machine). v.history) c.self.view_is)) ∙ copy.fate
 
 pub take_unforced-requires-clause-unforced : goal.take_unforced-requires-clause-unforced
 take_unforced-requires-clause-unforced c =
     let w : Inside = c.self.inside in
     let m : MsgName = c.args.message.now in
-    let copy : IsTakenCopy w c.in-Colours.turning c.in-Colours.colours c.in-Colours.received c.args.from c.args.to c.args.pick m None =
-    is_taken_copy w c.args.self.now c.self.view_is c.self.invariant c.args.from c.args.to c.args.pick c.args.state.now c.requires.passed c.in-Colours.turning c.in-Colours.colours c.in-Colours.received c.in-Colours.is m c.requires.picked
+    let copy : IsTakenCopy w c.in-Colours.turning c.in-Colours.colours c.in-Colours.received c.args.place.from c.args.place.to c.args.place.pick m None =
+    is_taken_copy w c.args.self.now c.self.view_is c.self.invariant c.args.place.from c.args.place.to c.args.place.pick c.args.state.now c.requires.passed c.in-Colours.turning c.in-Colours.colours c.in-Colours.received c.in-Colours.is m c.requires.picked
     c.history.result.now.processes c.history.ensures.processes c.fate_of.result c.fate_of.ensures c.in-Taken.is c.before_receive.result c.before_receive.ensures None c.in-None.is in
-    ap (λ (h : List Process). forced_round Unordered h c.args.to m) (sym (ap (λ (v : Machine). v.history) c.self.view_is)) ∙ copy.forces
+    ap (λ (h : List Process). forced_round Unordered h c.args.place.to m) (sym (ap (λ (v : Machine). v.history) c.self.view_is)) ∙ copy.forces
 
 pub take_forced-requires-clause-unordered : goal.take_forced-requires-clause-unordered
 take_forced-requires-clause-unordered c = sym (ap (λ (v : Machine). v.mode) c.self.view_is) ∙ ap mode_of c.in-Colours.is
@@ -123,16 +123,16 @@ pub take_forced-requires-clause-taken : goal.take_forced-requires-clause-taken
 take_forced-requires-clause-taken c =
     let w : Inside = c.self.inside in
     let m : MsgName = c.args.message.now in
-    let copy : IsTakenCopy w c.in-Colours.turning c.in-Colours.colours c.in-Colours.received c.args.from c.args.to c.args.pick m (Some c.in-Some.round) =
-    is_taken_copy w c.args.self.now c.self.view_is c.self.invariant c.args.from c.args.to c.args.pick c.args.state.now c.requires.passed c.in-Colours.turning c.in-Colours.colours c.in-Colours.received c.in-Colours.is m c.requires.picked
+    let copy : IsTakenCopy w c.in-Colours.turning c.in-Colours.colours c.in-Colours.received c.args.place.from c.args.place.to c.args.place.pick m (Some c.in-Some.round) =
+    is_taken_copy w c.args.self.now c.self.view_is c.self.invariant c.args.place.from c.args.place.to c.args.place.pick c.args.state.now c.requires.passed c.in-Colours.turning c.in-Colours.colours c.in-Colours.received c.in-Colours.is m c.requires.picked
     c.history.result.now.processes c.history.ensures.processes c.fate_of.result c.fate_of.ensures c.in-Taken.is c.before_receive.result c.before_receive.ensures (Some c.in-Some.round) c.in-Some.is in
-    ap (λ (h : List Process). fate_of Unordered h c.args.to m) (sym (ap (λ (v : Machine). v.history) c.self.view_is)) ∙ copy.fate
+    ap (λ (h : List Process). fate_of Unordered h c.args.place.to m) (sym (ap (λ (v : Machine). v.history) c.self.view_is)) ∙ copy.fate
 
 pub take_forced-requires-clause-forced : goal.take_forced-requires-clause-forced
 take_forced-requires-clause-forced c =
     let w : Inside = c.self.inside in
     let m : MsgName = c.args.message.now in
-    let copy : IsTakenCopy w c.in-Colours.turning c.in-Colours.colours c.in-Colours.received c.args.from c.args.to c.args.pick m (Some c.in-Some.round) =
-    is_taken_copy w c.args.self.now c.self.view_is c.self.invariant c.args.from c.args.to c.args.pick c.args.state.now c.requires.passed c.in-Colours.turning c.in-Colours.colours c.in-Colours.received c.in-Colours.is m c.requires.picked
+    let copy : IsTakenCopy w c.in-Colours.turning c.in-Colours.colours c.in-Colours.received c.args.place.from c.args.place.to c.args.place.pick m (Some c.in-Some.round) =
+    is_taken_copy w c.args.self.now c.self.view_is c.self.invariant c.args.place.from c.args.place.to c.args.place.pick c.args.state.now c.requires.passed c.in-Colours.turning c.in-Colours.colours c.in-Colours.received c.in-Colours.is m c.requires.picked
     c.history.result.now.processes c.history.ensures.processes c.fate_of.result c.fate_of.ensures c.in-Taken.is c.before_receive.result c.before_receive.ensures (Some c.in-Some.round) c.in-Some.is in
-    ap (λ (h : List Process). forced_round Unordered h c.args.to m) (sym (ap (λ (v : Machine). v.history) c.self.view_is)) ∙ copy.forces
+    ap (λ (h : List Process). forced_round Unordered h c.args.place.to m) (sym (ap (λ (v : Machine). v.history) c.self.view_is)) ∙ copy.forces

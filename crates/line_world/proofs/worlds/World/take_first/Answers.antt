@@ -28,17 +28,17 @@ use Rattle.line_world.proofs.worlds.World.take_first.Goals as goal
 
 pub take_message-requires-clause-named : goal.take_message-requires-clause-named
 take_message-requires-clause-named c =
-    (is_picked c.self.inside c.args.self.now c.self.view_is c.self.invariant c.args.from c.args.to c.args._pick c.args._state.now c.requires.passed (Message c.args.message.now) c.requires.picked).of_sender
+    (is_picked c.self.inside c.args.self.now c.self.view_is c.self.invariant c.args.place.from c.args.place.to c.args.place.pick c.args._state.now c.requires.passed (Message c.args.message.now) c.requires.picked).of_sender
 
 pub take_message-requires-clause-held : goal.take_message-requires-clause-held
 take_message-requires-clause-held c =
     let w : Inside = c.self.inside in
-    let from : ℕ = c.args.from in
-    let to : ℕ = c.args.to in
+    let from : ℕ = c.args.place.from in
+    let to : ℕ = c.args.place.to in
     let m : MsgName = c.args.message.now in
-    let p : IsPicked w from to c.args._pick (Message m) = is_picked w c.args.self.now c.self.view_is c.self.invariant from to c.args._pick c.args._state.now c.requires.passed (Message m) c.requires.picked in
+    let p : IsPicked w from to c.args.place.pick (Message m) = is_picked w c.args.self.now c.self.view_is c.self.invariant from to c.args.place.pick c.args._state.now c.requires.passed (Message m) c.requires.picked in
     let is : IsInOrder w c.in-Markers.running = is_in_order w c.args.self.now c.self.view_is c.self.invariant c.in-Markers.running c.in-Markers.is in
-    IsWorld-held w.catalogue.processes w.links from to p.from_in p.to_in m p.of_sender c.args._pick p.at p.apart Fifo is.world (λ _. p.first is.mode_is) refl
+    IsWorld-held w.catalogue.processes w.links from to p.from_in p.to_in m p.of_sender c.args.place.pick p.at p.apart Fifo is.world (λ _. p.first is.mode_is) refl
 
 pub invariant_of-self-in_err-take_message-in-Markers : goal.invariant_of-self-in_err-take_message-in-Markers
 invariant_of-self-in_err-take_message-in-Markers c =
@@ -58,20 +58,20 @@ pub invariant_of-self-in-Markers : goal.invariant_of-self-in-Markers
 invariant_of-self-in-Markers c =
     let w : Inside = c.self.inside in
     let history : List Process = w.catalogue.processes in
-    let from : ℕ = c.args.from in
-    let to : ℕ = c.args.to in
+    let from : ℕ = c.args.place.from in
+    let to : ℕ = c.args.place.to in
     let m : MsgName = c.args.message.now in
     let e : Event = Recv m in
     let running : Option OpenView = c.in-Markers.running in
     let new : Option OpenView = c.take_message.new.running in
-    let p : IsPicked w from to c.args._pick (Message m) = is_picked w c.args.self.now c.self.view_is c.self.invariant from to c.args._pick c.args._state.now c.requires.passed (Message m) c.requires.picked in
+    let p : IsPicked w from to c.args.place.pick (Message m) = is_picked w c.args.self.now c.self.view_is c.self.invariant from to c.args.place.pick c.args._state.now c.requires.passed (Message m) c.requires.picked in
     let is : IsInOrder w running = is_in_order w c.args.self.now c.self.view_is c.self.invariant running c.in-Markers.is in
     let taken : c.take_message.new.catalogue.processes ≡ with_event history to e = c.in_ok-take_message-in-Markers.ensures.taken in
     let opening : IsOnlyOpen Fifo (with_event history to e) new = subst (λ (h : List Process). IsOnlyOpen Fifo h new) taken c.in_ok-take_message-in-Markers.ensures.opening in
     ordered_kept c.take_message.new.catalogue.processes (with_event history to e) taken c.take_message.new.links w.last_round new w.rounds.items
     (subst (λ (h : List Process). IsWorld Fifo h c.take_message.new.links) (sym taken)
     (subst (λ (q : List (List (List Item))). IsWorld Fifo (with_event history to e) q) (sym c.in_ok-take_message-in-Markers.ensures.off)
-    (IsWorld-take history w.links from to p.from_in p.to_in m p.of_sender c.args._pick p.at p.apart Fifo is.world (λ _. p.first is.mode_is) refl)))
+    (IsWorld-take history w.links from to p.from_in p.to_in m p.of_sender c.args.place.pick p.at p.apart Fifo is.world (λ _. p.first is.mode_is) refl)))
     (AreRounds-kept history to e p.to_in (λ r. refl) (λ r q. refl) Fifo w.last_round running new w.rounds.items c.in_ok-take_message-in-Markers.ensures.number opening is.are)
 
 pub returns-clause-done : goal.returns-clause-done
@@ -79,9 +79,9 @@ returns-clause-done c =
     let w : Inside = c.self.inside in
     let history : List Process = w.catalogue.processes in
     let last : ℕ = w.last_round in
-    let from : ℕ = c.args.from in
-    let to : ℕ = c.args.to in
-    let pick : ℕ = c.args._pick in
+    let from : ℕ = c.args.place.from in
+    let to : ℕ = c.args.place.to in
+    let pick : ℕ = c.args.place.pick in
     let m : MsgName = c.args.message.now in
     let state : List ℕ = c.args._state.now in
     let e : Event = Recv m in

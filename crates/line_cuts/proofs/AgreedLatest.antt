@@ -22,7 +22,7 @@ use Rattle.line_cuts.proofs.SurvivalCuts.{survives_cut}
 use Rattle.line_catalogue.specs.Agreement.{Agrees}
 use Rattle.line_cuts.proofs.ConsistentCuts.{choice_cut, floor_at, consistent_left}
 use Rattle.line_cuts.proofs.LatestCuts.{length_cut, length_history, length_whole, raised, raised_above, raised_cases, raised_later, raised_line, same_line, sent_back, whole_above, whole_at, whole_order}
-use Rattle.line_collect.proofs.AgreedCuts.{consistent_whole}
+use Rattle.line_cuts.proofs.AgreedCuts.{consistent_whole}
 
 module _ (floor : Floor) (history : List Process) (marks : MarksView) (failed : List Bool) (agrees : Agrees history) (is : IsFloor history floor) (stays : FloorSurvives history marks floor) where
   -- past the processes the floor is at their initial states

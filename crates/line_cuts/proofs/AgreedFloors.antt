@@ -25,14 +25,14 @@ use Rattle.line_cuts.specs.Cuts.{Floor, IsFloor, FloorSurvives, floor_check, los
 use Rattle.line_cuts.proofs.AgreementCuts.{count_cut, held_cut}
 use Rattle.line_cuts.proofs.EventCuts.{received_left}
 use Rattle.line_cuts.proofs.SendCuts.{addressed_left_at, name_back, sends_left}
-use Rattle.line_collect.proofs.AgreedTransit.{received_above}
+use Rattle.line_cuts.proofs.AgreedTransit.{received_above}
 use Rattle.line_cuts.proofs.TwoCuts.{check_both}
 use Rattle.line_tape.specs.Fit.{IsSentTo}
 use Rattle.line_catalogue.specs.Agreement.{Agrees}
 use Rattle.line_cuts.proofs.ConsistentCuts.{tape_cut, choice_cut, floor_at, events_cut}
 use Rattle.line_cuts.proofs.LatestCuts.{length_history, length_cut, same_line}
-use Rattle.line_collect.proofs.AgreedCuts.{consistent_whole}
-use Rattle.line_collect.proofs.AgreedLatest.{floor_below}
+use Rattle.line_cuts.proofs.AgreedCuts.{consistent_whole}
+use Rattle.line_cuts.proofs.AgreedLatest.{floor_below}
 
 -- past the processes a floor is at their initial states
 floor_past : (floor : Floor) (history : List Process) → IsFloor history floor → (p : ℕ) → length history ≤ p → floor_check floor p ≡ 0

@@ -25,7 +25,7 @@ use Rattle.line_cuts.proofs.EventCuts.{received_left}
 use Rattle.line_cuts.proofs.SurvivalCuts.{checks_left}
 use Rattle.line_catalogue.specs.Agreement.{Agrees}
 use Rattle.line_cuts.proofs.LatestCuts.{same_line, length_history, length_cut, length_whole, whole_at, brought_back}
-use Rattle.line_collect.proofs.AgreedLatest.{floor_exists, floor_survives, survives_same, floor_recoverable, recoverable_cut, whole_recoverable}
+use Rattle.line_cuts.proofs.AgreedLatest.{floor_exists, floor_survives, survives_same, floor_recoverable, recoverable_cut, whole_recoverable}
 
 -- the latest check that passes, in what is left and in the whole
 module _ (passes after : Choice → Bool) (k : ℕ) (same : (c : ℕ) → k ≤ c → after (AtCheck (c - (k - 1))) ≡ passes (AtCheck c)) (at : passes (AtCheck k) ≡ true) where

@@ -1,0 +1,14 @@
+-- What one process sent of what runs show is what its run shows.
+use Rattle.std.proofs.Common.{sym, ap, ◌∙◌}
+use Rattle.line_colours.proofs.RunLemmas.{run_or_none, shown}
+use Rattle.line_colours.proofs.runs.shown_of.Goals as goal
+
+pub returns-in-Some : goal.returns-in-Some
+returns-in-Some c =
+    sym (shown c.args.buffer.now c.args.runs.now c.args.p c.requires
+    ∙ ap (run_or_none c.args.buffer.now) (sym c.run_of.ensures.found ∙ c.in-Some.is))
+
+pub returns-in-None : goal.returns-in-None
+returns-in-None c =
+    sym (shown c.args.buffer.now c.args.runs.now c.args.p c.requires
+    ∙ ap (run_or_none c.args.buffer.now) (sym c.run_of.ensures.found ∙ c.in-None.is))
