@@ -20,6 +20,8 @@ def split_uses(text: str) -> str:
             kept: list[str] = []
             while names and len(use[1] + ", ".join([*kept, names[0]]) + use[3]) <= WIDTH:
                 kept.append(names.pop(0))
+            if not kept and len(names) > 1:
+                kept.append(names.pop(0))  # a name that is longer than a line stands alone
             if not kept or not names:
                 break
             lines.append(use[1] + ", ".join(kept) + use[3])
@@ -50,7 +52,8 @@ def break_of(line: str, indent: int) -> int | None:
         while 0 <= at <= WIDTH:
             is_over = indent + len(line) - at - 1 > WIDTH
             key = (is_over, depths[at], rank, -at)
-            if line[at + len(sign)] not in CLOSE and (best is None or key < best[0]):
+            after = line[at + len(sign) : at + len(sign) + 1]
+            if after and after not in CLOSE and (best is None or key < best[0]):
                 best = (key, at)
             at = line.find(sign, at + 1)
     return best[1] if best else None

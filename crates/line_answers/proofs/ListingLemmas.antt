@@ -8,6 +8,10 @@ use Rattle.line_tape.specs.History.{Process}
 use Rattle.line_moves.specs.Listed.{ListedRound, IsSnapshotOf}
 
 -- a snapshot of a history has a check of each of its processes
-pub rounds_long : (history : List Process) (rounds : List ListedRound) → All (IsSnapshotOf history) rounds → All (λ (round : ListedRound). length round.checks ≡ length history) rounds
+pub rounds_long : (history : List Process) (rounds : List ListedRound) → All (IsSnapshotOf history)
+    rounds → All (λ (round : ListedRound). length round.checks ≡ length history) rounds
 rounds_long history rounds snapshots =
-    All-weaker (IsSnapshotOf history) (λ (round : ListedRound). length round.checks ≡ length history) (λ (round : ListedRound) (snapshot : IsSnapshotOf history round). sym (length-map round.checks (λ (c : ℕ). AtCheck c)) ∙ snapshot.line.length_is) rounds snapshots
+    All-weaker (IsSnapshotOf history)
+    (λ (round : ListedRound). length round.checks ≡ length history)
+    (λ (round : ListedRound) (snapshot : IsSnapshotOf history round). sym
+    (length-map round.checks (λ (c : ℕ). AtCheck c)) ∙ snapshot.line.length_is) rounds snapshots

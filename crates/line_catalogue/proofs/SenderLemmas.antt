@@ -1,10 +1,14 @@
 -- The messages of one process: where they stand among all, and what holds of them.
-use Rattle.std.proofs.Common.{◌≡◌, ℕ, ◌+◌, ◌-◌, ◌<◌, ◌≤◌, Bool, true, false, cond, leb, ltb, List, [], ◌∷◌, ◌++◌, ◌⊎◌, length, take, drop, get_or, map, filter, refl, sym, ap, ◌∙◌, subst, append-nil, arith, inl, inr}
+use Rattle.std.proofs.Common.{◌≡◌, ℕ, ◌+◌, ◌-◌, ◌<◌, ◌≤◌, Bool, true, false, cond, leb, ltb, List}
+use Rattle.std.proofs.Common.{[], ◌∷◌, ◌++◌, ◌⊎◌, length, take, drop, get_or, map, filter, refl}
+use Rattle.std.proofs.Common.{sym, ap, ◌∙◌, subst, append-nil, arith, inl, inr}
 use Rattle.std.specs.Prelude.{◌==◌}
 use Rattle.std.specs.List.{All, Contains, slice_range}
 use Rattle.std.specs.List.Sorted.{IsNonDecreasing, IsPartitionPoint}
-use Rattle.std.proofs.lemmas.Bool.{cases_lt, eq-eqb, eqb-true, leb-false, leb-true, ltb-false, ltb-true, ne_eqb}
-use Rattle.std.proofs.lemmas.List.{length-take, length-drop, length-map, get_or-map, get_or-drop, get_or-take, take-append-drop}
+use Rattle.std.proofs.lemmas.Bool.{cases_lt, eq-eqb, eqb-true, leb-false, leb-true, ltb-false}
+use Rattle.std.proofs.lemmas.Bool.{ltb-true, ne_eqb}
+use Rattle.std.proofs.lemmas.List.{length-take, length-drop, length-map, get_or-map, get_or-drop}
+use Rattle.std.proofs.lemmas.List.{get_or-take, take-append-drop}
 use Rattle.std.proofs.lemmas.List.Elements.{filter-append, filter_passes, All-head, All-tail}
 use Rattle.std.proofs.lemmas.List.Folds.{drop_split}
 use Rattle.std.proofs.lemmas.List.Kept.{AllPairs-filter}
@@ -22,22 +26,26 @@ module _ {X : Type 0} (test : X → Bool) where
   -- a filter of what passes nowhere, and of what passes everywhere
   filter-none : (xs : List X) → All (λ x. test x ≡ false) xs → filter test xs ≡ []
   filter-none [] none = refl
-  filter-none (x ∷ xs) none = ap (λ b. cond b (x ∷ filter test xs) (filter test xs)) (All-head (λ y. test y ≡ false) x xs none) ∙ filter-none xs (All-tail (λ y. test y ≡ false) x xs none)
+  filter-none (x ∷ xs) none = ap (λ b. cond b (x ∷ filter test xs) (filter test xs)) (All-head
+      (λ y. test y ≡ false) x xs none) ∙ filter-none xs (All-tail (λ y. test y ≡ false) x xs none)
 
   filter-all : (xs : List X) → All (λ x. test x ≡ true) xs → filter test xs ≡ xs
   filter-all [] all = refl
-  filter-all (x ∷ xs) all = ap (λ b. cond b (x ∷ filter test xs) (filter test xs)) (All-head (λ y. test y ≡ true) x xs all) ∙ ap (λ (ys : List X). x ∷ ys) (filter-all xs (All-tail (λ y. test y ≡ true) x xs all))
+  filter-all (x ∷ xs) all = ap (λ b. cond b (x ∷ filter test xs) (filter test xs))
+      (All-head (λ y. test y ≡ true) x xs all) ∙ ap (λ (ys : List X). x ∷ ys)
+      (filter-all xs (All-tail (λ y. test y ≡ true) x xs all))
 
   -- what is left of a list was in it
   from_filter : (xs : List X) (y : X) → Contains (filter test xs) y → Contains xs y
   from_filter [] y c = absurd (contains_nothing y c)
-  from_filter (x ∷ xs) y c = elim (test x) as (λ (b : Bool). Contains (cond b (x ∷ filter test xs) (filter test xs)) y → Contains (x ∷ xs) y) [
-    | true ↦ λ d. elim (cons_cases x (filter test xs) y d) [
-      | inl same ↦ subst (Contains (x ∷ xs)) same (contains_first x xs)
-      | inr later ↦ contains_cons x y xs (from_filter xs y later)
-    ]
-    | false ↦ λ d. contains_cons x y xs (from_filter xs y d)
-  ] c
+  from_filter (x ∷ xs) y c = elim (test x) as (λ (b : Bool). Contains
+      (cond b (x ∷ filter test xs) (filter test xs)) y → Contains (x ∷ xs) y) [
+        | true ↦ λ d. elim (cons_cases x (filter test xs) y d) [
+          | inl same ↦ subst (Contains (x ∷ xs)) same (contains_first x xs)
+          | inr later ↦ contains_cons x y xs (from_filter xs y later)
+        ]
+        | false ↦ λ d. contains_cons x y xs (from_filter xs y d)
+      ] c
 
 -- the messages of process p stand between those of the processes below and those of the ones above
 module _ (messages : List MsgName) (p start end : ℕ)
@@ -51,7 +59,8 @@ module _ (messages : List MsgName) (p start end : ℕ)
     | inl below ↦
         let any : MsgName = record { from = 0; inc = 0; number = 0 } in
         let low = ltb-true (get_or messages end any).from p (first.0 end any (omega arith) below) in
-        let high = leb-false (get_or messages end any).from p (last.1 end any (omega arith) (omega (arith, below, start_within))) in
+        let high = leb-false (get_or messages end any).from p
+        (last.1 end any (omega arith) (omega (arith, below, start_within))) in
         absurd (omega (arith, low, high))
     | inr above ↦ above
   ]
@@ -62,61 +71,106 @@ module _ (messages : List MsgName) (p start end : ℕ)
       let front : List MsgName = take start messages in
       let middle : List MsgName = slice_range messages start end in
       let back : List MsgName = drop end messages in
-      let whole : messages ≡ front ++ (middle ++ back) = sym (take-append-drop start messages) ∙ ap (λ (ms : List MsgName). front ++ ms) (drop_split messages start end part_ascends) in
+      let whole : messages ≡ front ++ (middle ++ back) = sym (take-append-drop start messages) ∙ ap
+      (λ (ms : List MsgName). front ++ ms) (drop_split messages start end part_ascends) in
       let none_before : filter is front ≡ [] = filter-none is front (λ k d k_within.
       let below : k < start = omega (arith, k_within, length-take start messages) in
       let low = ltb-true (get_or messages k d).from p (first.0 k d (omega arith) below) in
-      ap (λ (m : MsgName). m.from == p) (get_or-take start messages k d below) ∙ ne_eqb (get_or messages k d).from p (λ e. absurd (omega (arith, low, e)))) in
+      ap (λ (m : MsgName). m.from == p) (get_or-take start messages k d below) ∙ ne_eqb
+      (get_or messages k d).from p (λ e. absurd (omega (arith, low, e)))) in
       let none_behind : filter is back ≡ [] = filter-none is back (λ k d k_within.
       let within : end + k < length messages = omega (arith, k_within, length-drop end messages) in
-      let high = leb-false (get_or messages (end + k) d).from p (last.1 (end + k) d (omega arith) within) in
-      ap (λ (m : MsgName). m.from == p) (get_or-drop end messages k d) ∙ ne_eqb (get_or messages (end + k) d).from p (λ e. absurd (omega (arith, high, e)))) in
+      let high = leb-false (get_or messages (end + k) d).from p
+      (last.1 (end + k) d (omega arith) within) in
+      ap (λ (m : MsgName). m.from == p) (get_or-drop end messages k d) ∙ ne_eqb
+      (get_or messages (end + k) d).from p (λ e. absurd (omega (arith, high, e)))) in
       let all_between : filter is middle ≡ middle = filter-all is middle (λ k d k_within.
-      let inside : k < end - start = omega (arith, k_within, length-take (end - start) (drop start messages)) in
+      let inside : k < end - start = omega
+      (arith, k_within, length-take (end - start) (drop start messages)) in
       let within : start + k < length messages = omega (arith, inside, end_within) in
-      let low = ltb-false (get_or messages (start + k) d).from p (first.1 (start + k) d (omega arith) within) in
-      let high = leb-true (get_or messages (start + k) d).from p (last.0 (start + k) d (omega arith) (omega (arith, inside))) in
-      ap (λ (m : MsgName). m.from == p) (get_or-take (end - start) (drop start messages) k d inside ∙ get_or-drop start messages k d) ∙ eq-eqb (get_or messages (start + k) d).from p (omega (arith, low, high))) in
-      sym (ap (filter is) whole ∙ filter-append is front (middle ++ back) ∙ ap (λ (ms : List MsgName). ms ++ filter is (middle ++ back)) none_before ∙ filter-append is middle back ∙ ap (λ (ms : List MsgName). filter is middle ++ ms) none_behind ∙ append-nil (filter is middle) ∙ all_between)
+      let low = ltb-false (get_or messages (start + k) d).from p
+      (first.1 (start + k) d (omega arith) within) in
+      let high = leb-true (get_or messages (start + k) d).from p
+      (last.0 (start + k) d (omega arith) (omega (arith, inside))) in
+      ap (λ (m : MsgName). m.from == p)
+      (get_or-take (end - start) (drop start messages) k d inside ∙ get_or-drop start messages k
+      d) ∙ eq-eqb (get_or messages (start + k) d).from p (omega (arith, low, high))) in
+      sym (ap (filter is) whole ∙ filter-append is front (middle ++ back) ∙ ap
+      (λ (ms : List MsgName). ms ++ filter is (middle ++ back)) none_before ∙ filter-append is
+      middle back ∙ ap (λ (ms : List MsgName). filter is middle ++ ms) none_behind ∙ append-nil
+      (filter is middle) ∙ all_between)
 
 -- they are all from it
-pub from-messages_of : (p : ℕ) (left : List MsgName) → All (λ (m : MsgName). m.from ≡ p) (messages_of p left)
-from-messages_of p left = λ k d within. eqb-true (get_or (messages_of p left) k d).from p (filter_passes (λ (m : MsgName). m.from == p) left k d within)
+pub from-messages_of : (p : ℕ) (left : List MsgName)
+    → All (λ (m : MsgName). m.from ≡ p) (messages_of p left)
+from-messages_of p left = λ k d within. eqb-true (get_or (messages_of p left) k d).from p
+    (filter_passes (λ (m : MsgName). m.from == p) left k d within)
 
 -- they are among all
-pub among-messages_of : (p : ℕ) (left : List MsgName) (m : MsgName) → Contains (messages_of p left) m → Contains left m
+pub among-messages_of : (p : ℕ) (left : List MsgName) (m : MsgName)
+    → Contains (messages_of p left) m → Contains left m
 among-messages_of p left m c = from_filter (λ (x : MsgName). x.from == p) left m c
 
 -- those of all that are from it
-pub in-messages_of : (p : ℕ) (left : List MsgName) (m : MsgName) → m.from ≡ p → Contains left m → Contains (messages_of p left) m
-in-messages_of p left m from c = in_filter (λ (x : MsgName). x.from == p) left m (eq-eqb m.from p from) c
+pub in-messages_of : (p : ℕ) (left : List MsgName) (m : MsgName) → m.from ≡ p → Contains left m
+    → Contains (messages_of p left) m
+in-messages_of p left m from c =
+    in_filter (λ (x : MsgName). x.from == p) left m (eq-eqb m.from p from) c
 
 -- their numbers ascend
-pub rising-messages_of : (p : ℕ) (left : List MsgName) → ComeInOrder left → (i j d : ℕ) → i < j → j < length (messages_of p left) → get_or (map (λ (m : MsgName). m.number) (messages_of p left)) i d < get_or (map (λ (m : MsgName). m.number) (messages_of p left)) j d
+pub rising-messages_of : (p : ℕ) (left : List MsgName) → ComeInOrder left → (i j d : ℕ) → i < j
+    → j < length (messages_of p left) → get_or (map (λ (m : MsgName). m.number)
+    (messages_of p left)) i d < get_or (map (λ (m : MsgName). m.number) (messages_of p left)) j d
 rising-messages_of p left order i j d less within =
     let own : List MsgName = messages_of p left in
     let any : MsgName = record { from = 0; inc = 0; number = 0 } in
-    let at_i : get_or (map (λ (m : MsgName). m.number) own) i d ≡ (get_or own i any).number = get_or-map (λ (m : MsgName). m.number) own i any d (omega (arith, less, within)) in
-    let at_j : get_or (map (λ (m : MsgName). m.number) own) j d ≡ (get_or own j any).number = get_or-map (λ (m : MsgName). m.number) own j any d within in
-    let from : (get_or own i any).from ≡ (get_or own j any).from = from-messages_of p left i any (omega (arith, less, within)) ∙ sym (from-messages_of p left j any within) in
-    let below = AllPairs-filter (λ (x y : MsgName). x.from ≡ y.from → x.number < y.number) (λ (m : MsgName). m.from == p) left order.numbers i j any less within from in
+    let at_i : get_or (map (λ (m : MsgName). m.number) own) i d ≡ (get_or own i any).number =
+    get_or-map (λ (m : MsgName). m.number) own i any d (omega (arith, less, within)) in
+    let at_j : get_or (map (λ (m : MsgName). m.number) own) j d
+    ≡ (get_or own j any).number = get_or-map (λ (m : MsgName). m.number) own j any d within in
+    let from : (get_or own i any).from ≡ (get_or own j any).from = from-messages_of p left i any
+    (omega (arith, less, within)) ∙ sym (from-messages_of p left j any within) in
+    let below = AllPairs-filter (λ (x y : MsgName). x.from ≡ y.from → x.number < y.number)
+    (λ (m : MsgName). m.from == p) left order.numbers i j any less within from in
     omega (arith, at_i, at_j, below)
 
--- where a row is empty nothing is in transit from one number to another between which none of theirs stands
-pub gap-messages_of : (history : List Process) (line : List Choice) (p end : ℕ) (row : List ℕ) (left kept : List MsgName) → kept ≡ messages_of p left → row ≡ [] → ComeInOrder left → end ≤ sends (events_before history line p) → HasOpenBeside history line p end row left
-    → (index a b : ℕ) → a ≤ b → b ≤ end → ((j : ℕ) → j < index → (get_or (map (λ (m : MsgName). m.number) kept) j 0 < a) ⊎ (end ≤ get_or (map (λ (m : MsgName). m.number) kept) j 0)) → (index < length (map (λ (m : MsgName). m.number) kept) → b ≤ get_or (map (λ (m : MsgName). m.number) kept) index 0)
+-- where a row is empty nothing is in transit from one number to another between which none of
+-- theirs stands
+pub gap-messages_of : (history : List Process) (line : List Choice) (p end : ℕ) (row : List ℕ)
+    (left kept : List MsgName) → kept ≡ messages_of p left → row ≡ [] → ComeInOrder left
+    → end ≤ sends (events_before history line p) → HasOpenBeside history line p end row left
+    → (index a b : ℕ) → a ≤ b → b ≤ end
+    → ((j : ℕ) → j < index
+    → (get_or (map (λ (m : MsgName). m.number) kept) j 0 < a)
+    ⊎ (end ≤ get_or (map (λ (m : MsgName). m.number) kept) j 0)) → (index < length (map (λ
+    (m : MsgName). m.number) kept) → b ≤ get_or (map (λ (m : MsgName). m.number) kept) index 0)
     → open_first history line p a ≡ open_first history line p b
-gap-messages_of history line p end row left kept is empty order few held index a b up low passed next =
+gap-messages_of history line p end row left kept is empty order few held index a b up low passed
+    next =
     let numbers : List ℕ = map (λ (m : MsgName). m.number) kept in
-    let own : numbers ≡ map (λ (m : MsgName). m.number) (messages_of p left) = ap (map (λ (m : MsgName). m.number)) is in
-    let sorted : IsNonDecreasing numbers = subst IsNonDecreasing (sym own) (λ i j d l within. elim (cases_lt i j) [
-      | inl less ↦ omega (arith, rising-messages_of p left order i j d less (omega (arith, within, length-map (messages_of p left) (λ (m : MsgName). m.number))))
+    let own : numbers ≡ map (λ (m : MsgName). m.number) (messages_of p left) = ap
+    (map (λ (m : MsgName). m.number)) is in
+    let sorted : IsNonDecreasing numbers = subst IsNonDecreasing (sym own)
+    (λ i j d l within. elim (cases_lt i j) [
+      | inl less ↦ omega (
+        arith,
+        rising-messages_of p left order i j d less
+            (omega (arith, within, length-map (messages_of p left) (λ (m : MsgName). m.number))),
+      )
       | inr more ↦
           let same : i ≡ j = omega (arith, l, more) in
-          omega (arith, ap (λ (k : ℕ). get_or (map (λ (m : MsgName). m.number) (messages_of p left)) k d) same)
+          omega (
+            arith,
+            ap
+                (λ (k : ℕ). get_or (map (λ (m : MsgName). m.number) (messages_of p left)) k d) same,
+          )
     ]) in
-    let has : HasOpen history line p end numbers = subst (HasOpen history line p end) (sym own) (λ q m from under sent unseen. elim (held q m from under sent unseen) [
-      | inl among ↦ absurd (contains_nothing m.number (subst (λ (r : List ℕ). Contains r m.number) empty among))
-      | inr among ↦ in_map (λ (x : MsgName). x.number) (messages_of p left) m (in-messages_of p left m from among)
+    let has : HasOpen history line p end numbers = subst (HasOpen history line p end) (sym own)
+    (λ q m from under sent unseen. elim (held q m from under sent unseen) [
+      | inl among ↦ absurd
+          (contains_nothing m.number (subst (λ (r : List ℕ). Contains r m.number) empty among))
+      | inr among ↦ in_map (λ (x : MsgName). x.number) (messages_of p left) m
+          (in-messages_of p left m from among)
     ]) in
-    gap-to history line p end numbers few has a b up low (none_between numbers end index a b sorted passed low next)
+    gap-to history line p end numbers few has a b up low
+    (none_between numbers end index a b sorted passed low next)

@@ -7,6 +7,7 @@ use Rattle.line_claims.specs.Saved.{saved_of, saved_of_text}
 use Rattle.line_claims.specs.Texts.{records_in}
 
 -- it has no records
-pub nothing_saved : (text : List ℕ) (records : List Record) → records_in text ≡ Ok records → records ≡ [] → saved_of_text text ≡ Err (fault_of_record 1 faults.NoWorld)
+pub nothing_saved : (text : List ℕ) (records : List Record) → records_in text ≡ Ok records
+    → records ≡ [] → saved_of_text text ≡ Err (fault_of_record 1 faults.NoWorld)
 unfolding saved_of
 nothing_saved text records is none = rw (is, none) refl

@@ -11,9 +11,11 @@ use Rattle.line_collect.specs.Names.{report_name_text}
 use Rattle.line_collect.specs.Reports.{report_in}
 
 other_text : (xs ys : List ℕ) → xs ≢ ys → bytes_eq xs ys ≡ false
-other_text xs ys other = elim (cases_Bool (bytes_eq xs ys)) [ inl e ↦ absurd (other ((bytes_eq-Decides xs ys).0 e)) | inr e ↦ e ]
+other_text xs ys other = elim (cases_Bool (bytes_eq xs ys))
+    [ inl e ↦ absurd (other ((bytes_eq-Decides xs ys).0 e)) | inr e ↦ e ]
 
-named_otherwise : (n : ℕ) (r : Record) → ((name : ReportName) → bytes_eq (field r 0) (report_name_text name) ≡ false) → report_in n r ≡ Err faults.BadRecord
+named_otherwise : (n : ℕ) (r : Record) → ((name : ReportName)
+    → bytes_eq (field r 0) (report_name_text name) ≡ false) → report_in n r ≡ Err faults.BadRecord
 unfolding report_in
 named_otherwise n r other =
     rw (
@@ -32,5 +34,7 @@ named_otherwise n r other =
     ) refl
 
 -- such a record spells no report
-pub no_report : (n : ℕ) (r : Record) (first : List ℕ) → first ≡ field r 0 → ((name : ReportName) → first ≢ report_name_text name) → report_in n r ≡ Err faults.BadRecord
-no_report n r first is other = named_otherwise n r (λ name. other_text (field r 0) (report_name_text name) (rw (sym is) (other name)))
+pub no_report : (n : ℕ) (r : Record) (first : List ℕ) → first ≡ field r 0
+    → ((name : ReportName) → first ≢ report_name_text name) → report_in n r ≡ Err faults.BadRecord
+no_report n r first is other = named_otherwise n r
+    (λ name. other_text (field r 0) (report_name_text name) (rw (sym is) (other name)))

@@ -3,7 +3,9 @@ use Rattle.std.proofs.Common.{◌≡◌, ℕ, ◌<◌, List, [], ◌∷◌, ◌+
 use Rattle.line_colours.specs.Colours.{colour_of}
 
 -- a greater number at the end is the greatest
-pub colour_of-push : (rounds : List ℕ) (round : ℕ) → colour_of rounds < round → round ≡ colour_of (rounds ++ round ∷ [])
+pub colour_of-push : (rounds : List ℕ) (round : ℕ) → colour_of rounds < round
+    → round ≡ colour_of (rounds ++ round ∷ [])
 colour_of-push [] round h = omega arith
 colour_of-push (x ∷ rounds) round h =
-    let rest : round ≡ colour_of (rounds ++ round ∷ []) = colour_of-push rounds round (omega arith) in omega arith
+    let rest : round ≡ colour_of (rounds ++ round ∷ []) = colour_of-push rounds round
+    (omega arith) in omega arith

@@ -1,10 +1,13 @@
 -- Messages in transit, as they are gathered by receiver and kept.
-use Rattle.std.proofs.Common.{◌≡◌, ◌≢◌, ℕ, ◌+◌, ◌<◌, ◌≤◌, Bool, true, false, cond, List, [], ◌∷◌, ◌++◌, length, take, get_or, set, filter, Option, Some, None, refl, sym, ap, ◌∙◌, subst, arith, inl, inr}
+use Rattle.std.proofs.Common.{◌≡◌, ◌≢◌, ℕ, ◌+◌, ◌<◌, ◌≤◌, Bool, true, false, cond, List, [], ◌∷◌}
+use Rattle.std.proofs.Common.{◌++◌, length, take, get_or, set, filter, Option, Some, None, refl}
+use Rattle.std.proofs.Common.{sym, ap, ◌∙◌, subst, arith, inl, inr}
 use Rattle.std.specs.Prelude.{◌==◌, ◌&&◌}
 use Rattle.std.specs.List.{All}
 use Rattle.std.specs.Option.{option_eq}
 use Rattle.std.proofs.lemmas.Bool.{cases_eq, eq-eqb, eqb-true, false≢true, ne_eqb}
-use Rattle.std.proofs.lemmas.List.{append-nil, length-set, get_or-set_same, get_or-set_other, get_or_default}
+use Rattle.std.proofs.lemmas.List.{append-nil, length-set, get_or-set_same, get_or-set_other}
+use Rattle.std.proofs.lemmas.List.{get_or_default}
 use Rattle.std.proofs.lemmas.List.Elements.{All-weaker, All-push, filter_more, filter_passes}
 use Rattle.line_names.specs.declared.choices.Choice.{Choice}
 use Rattle.line_names.specs.declared.messages.MsgName.{MsgName}
@@ -12,10 +15,12 @@ use Rattle.line_tape.specs.History.{Process}
 use Rattle.line_tape.specs.Transit.{addressee, goes_between, in_transit, in_transit_between}
 use Rattle.line_laws.proofs.LetterLemmas.{open_are, parts}
 use Rattle.line_colours.specs.Channels.{channels_at}
-use Rattle.line_colours.specs.Inboxes.{goes_to, held_for, messages_from, table_held, AreFrom, AreByAddressee, AreInboxes, InboxView, IsInbox}
+use Rattle.line_colours.specs.Inboxes.{goes_to, held_for, messages_from, table_held, AreFrom}
+use Rattle.line_colours.specs.Inboxes.{AreByAddressee, AreInboxes, InboxView, IsInbox}
 use Rattle.line_colours.specs.Tables.{table_of}
 use Rattle.line_colours.proofs.ChannelLemmas.{sender_within}
-use Rattle.line_colours.proofs.InboxLemmas.{held_for-none, held_for-push_other, held_for-push_same, AreInboxes-push}
+use Rattle.line_colours.proofs.InboxLemmas.{held_for-none, held_for-push_other, held_for-push_same}
+use Rattle.line_colours.proofs.InboxLemmas.{AreInboxes-push}
 use Rattle.line_colours.proofs.TableLemmas.{between-of, table_of-all, IsTable-of}
 
 -- two filters after one another
@@ -106,7 +111,8 @@ module _ (history : List Process) (messages : List MsgName) where
 
   -- what is gathered of the messages in transit at a line are the channels at the line
   pub gathered_channels : (line : List Choice) (rows : List (List MsgName)) (n : ℕ)
-      → n ≡ length history → messages ≡ in_transit history line → AreByAddressee history messages rows
+      → n ≡ length history → messages ≡ in_transit history line
+      → AreByAddressee history messages rows
       → table_of n (λ p q. messages_from p (get_or rows q [])) ≡ channels_at history line
   gathered_channels line rows n same found are =
       let lists : ℕ → ℕ → List MsgName = λ p q. messages_from p (get_or rows q []) in
@@ -130,7 +136,8 @@ pub record AreKept (n : ℕ) (rows : List (List MsgName)) (i : ℕ) (inboxes : L
   where
     pub are : AreInboxes n inboxes
     pub below : All (λ (inbox : InboxView). inbox.to < i) inboxes
-    pub held : (p q : ℕ) → q < i → messages_from p (held_for inboxes q) ≡ messages_from p (get_or rows q [])
+    pub held : (p q : ℕ) → q < i
+        → messages_from p (held_for inboxes q) ≡ messages_from p (get_or rows q [])
 
 module _ (n : ℕ) (rows : List (List MsgName)) where
   module _ (i : ℕ) (inboxes : List InboxView) (before : AreKept n rows i inboxes) where
@@ -167,7 +174,8 @@ module _ (n : ℕ) (rows : List (List MsgName)) where
               (omega (arith, is));
           held = λ p q q_below. elim (cases_eq q i) [
             | inl same ↦ ap (λ (v : ℕ). messages_from p (held_for (inboxes ++ inbox ∷ []) v)) (same
-                ∙ sym is) ∙ ap (messages_from p) (held_for-push_same inbox inboxes below) ∙ same_sent p
+                ∙ sym is) ∙ ap (messages_from p)
+                (held_for-push_same inbox inboxes below) ∙ same_sent p
                 ∙ ap (λ (v : ℕ). messages_from p (get_or rows v [])) (sym same)
             | inr other ↦ ap (messages_from p)
                 (held_for-push_other inbox inboxes q (λ e. other (sym e ∙ is)))

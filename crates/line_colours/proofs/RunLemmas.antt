@@ -1,11 +1,17 @@
 -- Runs of a buffer, and what they show of it.
-use Rattle.std.proofs.Common.{◌≡◌, ◌≢◌, ℕ, zero, suc, ◌+◌, ◌-◌, ◌<◌, ◌≤◌, Bool, true, false, cond, min, leb, ltb, List, [], ◌∷◌, ◌++◌, length, take, drop, get_or, Option, Some, None, refl, sym, ap, ◌∙◌, subst, arith, inl, inr}
+use Rattle.std.proofs.Common.{◌≡◌, ◌≢◌, ℕ, zero, suc, ◌+◌, ◌-◌, ◌<◌, ◌≤◌, Bool, true, false, cond}
+use Rattle.std.proofs.Common.{min, leb, ltb, List, [], ◌∷◌, ◌++◌, length, take, drop, get_or}
+use Rattle.std.proofs.Common.{Option, Some, None, refl, sym, ap, ◌∙◌, subst, arith, inl, inr}
 use Rattle.std.specs.Prelude.{◌==◌, AllPairs, IfSome}
 use Rattle.std.specs.List.{All, slice_range}
 use Rattle.std.specs.List.Sorted.{IsNonDecreasingBy, IsPartitionPoint}
 use Rattle.std.proofs.Math.Seq.{take-append-add}
-use Rattle.std.proofs.lemmas.Bool.{cases_eq, cases_lt, eq-eqb, leb-false, leb-true, ltb-false, ltb-true, ne_eqb}
-use Rattle.std.proofs.lemmas.List.{append-nil, append_assoc, append_cancel_left, get_or-drop, get_or-take, get_or_append_left, get_or_default, get_or_push, length-append, length-drop, length-take, length-take-le, length_push, take-append-drop, take_more}
+use Rattle.std.proofs.lemmas.Bool.{cases_eq, cases_lt, eq-eqb, leb-false, leb-true, ltb-false}
+use Rattle.std.proofs.lemmas.Bool.{ltb-true, ne_eqb}
+use Rattle.std.proofs.lemmas.List.{append-nil, append_assoc, append_cancel_left, get_or-drop}
+use Rattle.std.proofs.lemmas.List.{get_or-take, get_or_append_left, get_or_default, get_or_push}
+use Rattle.std.proofs.lemmas.List.{length-append, length-drop, length-take, length-take-le}
+use Rattle.std.proofs.lemmas.List.{length_push, take-append-drop, take_more}
 use Rattle.std.proofs.lemmas.List.Elements.{All-head, All-push, All-tail, filter-append}
 use Rattle.std.proofs.lemmas.List.Folds.{drop_split}
 use Rattle.std.proofs.lemmas.List.Quantifiers.{all_pairs_push}
@@ -84,24 +90,29 @@ run_or_none buffer None = []
 run_or_none buffer (Some run) = run_in buffer run
 
 module _ (buffer : List MsgName) where
-  pub rest_are : (run : SenderRun) (rest : List SenderRun) → AreRuns buffer (run ∷ rest) → AreRuns buffer rest
+  pub rest_are : (run : SenderRun) (rest : List SenderRun) → AreRuns buffer (run ∷ rest)
+      → AreRuns buffer rest
   rest_are run rest are = record {
     ascend = λ i j d below within. are.ascend (suc i) (suc j) d (omega (arith, below))
         (omega (arith, within));
     each = All-tail (IsRun buffer) run rest are.each;
   }
 
-  pub first_is : (run : SenderRun) (rest : List SenderRun) → AreRuns buffer (run ∷ rest) → IsRun buffer run
+  pub first_is : (run : SenderRun) (rest : List SenderRun) → AreRuns buffer (run ∷ rest)
+      → IsRun buffer run
   first_is run rest are = All-head (IsRun buffer) run rest are.each
 
   -- a run shows what its process sent, and of no other
-  part_all : (run : SenderRun) → IsRun buffer run → messages_from run.from (run_in buffer run) ≡ run_in buffer run
+  part_all : (run : SenderRun) → IsRun buffer run
+      → messages_from run.from (run_in buffer run) ≡ run_in buffer run
   part_all run is = filter-all (λ (m : MsgName). m.from == run.from) (run_in buffer run)
       (λ k d within. eq-eqb (get_or (run_in buffer run) k d).from run.from (is.from k d within))
 
-  part_none : (run : SenderRun) (p : ℕ) → IsRun buffer run → run.from ≢ p → messages_from p (run_in buffer run) ≡ []
+  part_none : (run : SenderRun) (p : ℕ) → IsRun buffer run → run.from ≢ p
+      → messages_from p (run_in buffer run) ≡ []
   part_none run p is other = filter-none (λ (m : MsgName). m.from == p) (run_in buffer run)
-      (λ k d within. ne_eqb (get_or (run_in buffer run) k d).from p (λ e. other (sym (is.from k d within) ∙ e)))
+      (λ k d within. ne_eqb (get_or (run_in buffer run) k d).from p
+      (λ e. other (sym (is.from k d within) ∙ e)))
 
   -- what process p sent of what runs show is what its run shows
   pub shown : (runs : List SenderRun) (p : ℕ) → AreRuns buffer runs
@@ -116,20 +127,25 @@ module _ (buffer : List MsgName) where
       elim (cases_eq run.from p) [
         | inl same ↦
             let none : run_for rest p ≡ None = run_for-none rest p (λ k d within e.
-            let above : run.from < (get_or rest k d).from = are.ascend 0 (suc k) d (omega arith) (omega (arith, within)) in
+            let above : run.from < (get_or rest k d).from = are.ascend 0 (suc k) d (omega arith)
+            (omega (arith, within)) in
             absurd (omega (arith, above, e, same))) in
             let all : messages_from p part ≡ part =
-            subst (λ (q : ℕ). messages_from q part ≡ part) same (part_all run (first_is run rest are)) in
+            subst (λ (q : ℕ). messages_from q part ≡ part) same
+            (part_all run (first_is run rest are)) in
             filter-append is_p part others
             ∙ ap (λ (ms : List MsgName). ms ++ messages_from p others) all
             ∙ ap (λ (ms : List MsgName). part ++ ms) (behind ∙ ap (run_or_none buffer) none)
             ∙ append-nil part
-            ∙ sym (ap (λ b. run_or_none buffer (cond b (Some run) (run_for rest p))) (eq-eqb run.from p same))
+            ∙ sym (ap (λ b. run_or_none buffer (cond b (Some run) (run_for rest p)))
+            (eq-eqb run.from p same))
         | inr other ↦
             filter-append is_p part others
-            ∙ ap (λ (ms : List MsgName). ms ++ messages_from p others) (part_none run p (first_is run rest are) other)
+            ∙ ap (λ (ms : List MsgName). ms ++ messages_from p others)
+            (part_none run p (first_is run rest are) other)
             ∙ behind
-            ∙ sym (ap (λ b. run_or_none buffer (cond b (Some run) (run_for rest p))) (ne_eqb run.from p other))
+            ∙ sym (ap (λ b. run_or_none buffer (cond b (Some run) (run_for rest p)))
+            (ne_eqb run.from p other))
       ]
 
   -- the run that is found is one of the process
@@ -166,7 +182,8 @@ module _ (buffer : List MsgName) where
       ap (λ (ms : List MsgName). run_in buffer first ++ ms) (runs_in-push rest run)
       ∙ sym (append_assoc (run_in buffer first) (runs_in buffer rest) (run_in buffer run))
 
-  pub AreRuns-push : (runs : List SenderRun) (run : SenderRun) → AreRuns buffer runs → IsRun buffer run
+  pub AreRuns-push : (runs : List SenderRun) (run : SenderRun) → AreRuns buffer runs
+      → IsRun buffer run
       → All (λ (r : SenderRun). r.from < run.from) runs → AreRuns buffer (runs ++ run ∷ [])
   AreRuns-push runs run are is below = record {
     ascend = all_pairs_push (λ (a b : SenderRun). a.from < b.from) runs run are.ascend below;
@@ -174,9 +191,17 @@ module _ (buffer : List MsgName) where
   }
 
   -- so many messages a run shows
-  pub run_len : (run : SenderRun) → IsRun buffer run → length (run_in buffer run) ≡ run.end - run.start
+  pub run_len : (run : SenderRun) → IsRun buffer run
+      → length (run_in buffer run) ≡ run.end - run.start
   run_len run is =
-      omega (arith, is.some, is.within, length-take (run.end - run.start) (drop run.start buffer), length-drop run.start buffer)
+      omega (
+        arith,
+        is.some,
+        is.within,
+        length-take (run.end - run.start)
+            (drop run.start buffer),
+        length-drop run.start buffer,
+      )
 
 -- the first messages, and those of a range behind them
 pub take_range : (xs : List MsgName) (start end : ℕ) → start ≤ length xs → start ≤ end
@@ -196,7 +221,8 @@ pub shown_more : (buffer other : List MsgName) (xs ys : List SenderRun) (i : ℕ
     → runs_in buffer (take i xs) ≡ runs_in other (take i ys)
     → runs_in buffer (take (i + 1) xs) ≡ runs_in other (take (i + 1) ys)
 shown_more buffer other xs ys i x y x_within y_within x_is y_is same before =
-    ap (runs_in buffer) (take_more xs i x x_within ∙ ap (λ (r : SenderRun). take i xs ++ r ∷ []) (sym x_is))
+    ap (runs_in buffer)
+    (take_more xs i x x_within ∙ ap (λ (r : SenderRun). take i xs ++ r ∷ []) (sym x_is))
     ∙ runs_in-push buffer (take i xs) x
     ∙ ap (λ (ms : List MsgName). ms ++ run_in buffer x) before
     ∙ ap (λ (ms : List MsgName). runs_in other (take i ys) ++ ms) same
@@ -212,7 +238,8 @@ pub record IsCut (messages : List MsgName) (start : ℕ) (runs : List SenderRun)
   pub below : (k j : ℕ) (r : SenderRun) (d : MsgName) → k < length runs → start ≤ j
       → j < length messages → (get_or runs k r).from < (get_or messages j d).from
 
-module _ (messages : List MsgName) (start : ℕ) (runs : List SenderRun) (cut : IsCut messages start runs)
+module _ (messages : List MsgName) (start : ℕ) (runs : List SenderRun)
+    (cut : IsCut messages start runs)
     (by_sender : ComeBySender messages) (more : start < length messages) (from end : ℕ)
     (own : (d : MsgName) → (get_or messages start d).from ≡ from)
     (last : IsPartitionPoint (λ (m : MsgName). leb m.from from ≡ true)
@@ -239,7 +266,8 @@ module _ (messages : List MsgName) (start : ℕ) (runs : List SenderRun) (cut : 
         omega (arith, k_within, length-take (end - start) (drop start messages)) in
         let there : start + k < length messages = omega (arith, inside, end_within) in
         let at : get_or (run_in messages run_of_sender) k d ≡ get_or messages (start + k) d =
-        get_or-take (end - start) (drop start messages) k d inside ∙ get_or-drop start messages k d in
+        get_or-take (end - start)
+        (drop start messages) k d inside ∙ get_or-drop start messages k d in
         let high = leb-true (get_or messages (start + k) d).from from
         (last.0 (start + k) d (omega arith) (omega (arith, inside))) in
         let low : (get_or messages start d).from ≤ (get_or messages (start + k) d).from =
@@ -259,11 +287,22 @@ module _ (messages : List MsgName) (start : ℕ) (runs : List SenderRun) (cut : 
     below = λ k j r d k_within above j_within. elim (cases_lt k (length runs)) [
       | inl before ↦
           let old = cut.below k j r d before (omega (arith, above, cut_goes_on)) j_within in
-          omega (arith, ap (λ (v : SenderRun). v.from) (get_or_append_left runs (run_of_sender ∷ []) r k before), old)
+          omega (
+            arith,
+            ap (λ (v : SenderRun). v.from)
+                (get_or_append_left runs (run_of_sender ∷ []) r k before),
+            old,
+          )
       | inr behind ↦
-          let at : k ≡ length runs = omega (arith, behind, k_within, length_push runs run_of_sender) in
+          let at : k ≡ length runs = omega
+          (arith, behind, k_within, length_push runs run_of_sender) in
           let high = leb-false (get_or messages j d).from from (last.1 j d above j_within) in
-          omega (arith, ap (λ (v : SenderRun). v.from) (get_or_push runs run_of_sender r k (sym at)), high)
+          omega (
+            arith,
+            ap (λ (v : SenderRun). v.from)
+                (get_or_push runs run_of_sender r k (sym at)),
+            high,
+          )
     ];
   }
 
@@ -281,14 +320,16 @@ module _ (buffer : List MsgName) (runs : List SenderRun) (other : List MsgName) 
     (at : run ≡ get_or runs i run) (is : IsRun other found) (from : found.from ≡ run.from)
     (same : run_in other found ≡ run_in buffer run) where
   own_at : (d : SenderRun) → (get_or runs i d).from ≡ found.from
-  own_at d = ap (λ (r : SenderRun). r.from) (sym (at ∙ get_or_default runs i run d within)) ∙ sym from
+  own_at d =
+      ap (λ (r : SenderRun). r.from) (sym (at ∙ get_or_default runs i run d within)) ∙ sym from
 
   pub IsLeaning-more : IsLeaning buffer runs other (i + 1) (leaning ++ found ∷ [])
   IsLeaning-more = record {
     count = length_push leaning found ∙ ap (λ (k : ℕ). k + 1) before.count;
     senders = λ k d below. elim (cases_lt k i) [
       | inl lower ↦
-          ap (λ (r : SenderRun). r.from) (get_or_append_left leaning (found ∷ []) d k (omega (arith, lower, before.count)))
+          ap (λ (r : SenderRun). r.from)
+          (get_or_append_left leaning (found ∷ []) d k (omega (arith, lower, before.count)))
           ∙ before.senders k d lower
       | inr upper ↦
           let here : i ≡ k = omega (arith, below, upper) in
@@ -302,7 +343,8 @@ module _ (buffer : List MsgName) (runs : List SenderRun) (other : List MsgName) 
         ∙ ap (λ (ms : List MsgName). ms ++ run_in other found) before.shown
         ∙ ap (λ (ms : List MsgName). runs_in buffer (take i runs) ++ ms) same
         ∙ sym (runs_in-push buffer (take i runs) run)
-        ∙ ap (runs_in buffer) (sym (take_more runs i run within ∙ ap (λ (r : SenderRun). take i runs ++ r ∷ []) (sym at)));
+        ∙ ap (runs_in buffer) (sym
+        (take_more runs i run within ∙ ap (λ (r : SenderRun). take i runs ++ r ∷ []) (sym at)));
   }
 
 module _ (buffer : List MsgName) (run : SenderRun) (rest : List SenderRun) where
@@ -310,20 +352,28 @@ module _ (buffer : List MsgName) (run : SenderRun) (rest : List SenderRun) where
   shows_some : AreRuns buffer (run ∷ rest) → 0 < length (runs_in buffer (run ∷ rest))
   shows_some are =
       let is : IsRun buffer run = first_is buffer run rest are in
-      omega (arith, is.some, run_len buffer run is, length-append (run_in buffer run) (runs_in buffer rest))
+      omega (
+        arith,
+        is.some,
+        run_len buffer run is,
+        length-append (run_in buffer run)
+            (runs_in buffer rest),
+      )
 
   first_from : (d : MsgName) → AreRuns buffer (run ∷ rest)
       → (get_or (runs_in buffer (run ∷ rest)) 0 d).from ≡ run.from
   first_from d are =
       let is : IsRun buffer run = first_is buffer run rest are in
       let some : 0 < length (run_in buffer run) = omega (arith, is.some, run_len buffer run is) in
-      ap (λ (m : MsgName). m.from) (get_or_append_left (run_in buffer run) (runs_in buffer rest) d 0 some)
+      ap (λ (m : MsgName). m.from)
+      (get_or_append_left (run_in buffer run) (runs_in buffer rest) d 0 some)
       ∙ is.from 0 d some
 
   first_part : AreRuns buffer (run ∷ rest)
       → messages_from run.from (runs_in buffer (run ∷ rest)) ≡ run_in buffer run
   first_part are = shown buffer (run ∷ rest) run.from are
-      ∙ ap (λ b. run_or_none buffer (cond b (Some run) (run_for rest run.from))) (eq-eqb run.from run.from refl)
+      ∙ ap (λ b. run_or_none buffer (cond b (Some run) (run_for rest run.from)))
+      (eq-eqb run.from run.from refl)
 
 no_less : (xs ys : List MsgName) → xs ≡ ys → 0 < length xs → length ys ≡ 0 → ⊥
 no_less xs ys same some none = omega (arith, ap (λ (ms : List MsgName). length ms) same, some, none)
@@ -333,7 +383,8 @@ pub runs_unique : (buffer other : List MsgName) (xs ys : List SenderRun) → Are
     → AreRuns other ys → runs_in buffer xs ≡ runs_in other ys
     → (length xs ≡ length ys) × ((k : ℕ) (d e : SenderRun) → k < length xs
     → run_in buffer (get_or xs k d) ≡ run_in other (get_or ys k e))
-runs_unique buffer other [] [] xs_are ys_are same = (refl, λ k d e within. absurd (omega (arith, within)))
+runs_unique buffer other [] [] xs_are ys_are same =
+    (refl, λ k d e within. absurd (omega (arith, within)))
 runs_unique buffer other [] (y ∷ ys) xs_are ys_are same =
     absurd (no_less (runs_in other (y ∷ ys)) [] (sym same) (shows_some other y ys ys_are) refl)
 runs_unique buffer other (x ∷ xs) [] xs_are ys_are same =
@@ -352,13 +403,15 @@ runs_unique buffer other (x ∷ xs) (y ∷ ys) xs_are ys_are same =
     let rests : runs_in buffer xs ≡ runs_in other ys =
     append_cancel_left (run_in buffer x) (runs_in buffer xs) (runs_in other ys)
     (same ∙ ap (λ (ms : List MsgName). ms ++ runs_in other ys) (sym part)) in
-    let behind = runs_unique buffer other xs ys (rest_are buffer x xs xs_are) (rest_are other y ys ys_are) rests in (
+    let behind = runs_unique buffer other xs ys (rest_are buffer x xs xs_are)
+    (rest_are other y ys ys_are) rests in (
       ap (λ (k : ℕ). suc k) behind.0,
       each part behind.1,
     )
   where
     each : run_in buffer x ≡ run_in other y
-        → ((k : ℕ) (d e : SenderRun) → k < length xs → run_in buffer (get_or xs k d) ≡ run_in other (get_or ys k e))
+        → ((k : ℕ) (d e : SenderRun) → k < length xs
+        → run_in buffer (get_or xs k d) ≡ run_in other (get_or ys k e))
         → (k : ℕ) (d e : SenderRun) → k < suc (length xs)
         → run_in buffer (get_or (x ∷ xs) k d) ≡ run_in other (get_or (y ∷ ys) k e)
     each part behind zero d e within = part

@@ -1,12 +1,14 @@
 -- What is kept of a table is the only way to keep it, so that tables are the same where what is
 -- kept of them is.
-use Rattle.std.proofs.Common.{◌≡◌, ◌≢◌, ℕ, suc, ◌<◌, ◌≤◌, cond, List, [], ◌∷◌, length, get_or, refl, sym, ap, ◌∙◌, subst, arith, inl, inr}
+use Rattle.std.proofs.Common.{◌≡◌, ◌≢◌, ℕ, suc, ◌<◌, ◌≤◌, cond, List, [], ◌∷◌, length, get_or, refl}
+use Rattle.std.proofs.Common.{sym, ap, ◌∙◌, subst, arith, inl, inr}
 use Rattle.std.specs.Prelude.{◌==◌}
 use Rattle.std.specs.List.{All}
 use Rattle.std.proofs.lemmas.Bool.{cases_eq, cases_lt, eq-eqb, ne_eqb}
 use Rattle.std.proofs.lemmas.List.Elements.{All-cons, All-head, All-nil, All-tail, All-weaker}
 use Rattle.line_names.specs.declared.messages.MsgName.{MsgName}
-use Rattle.line_colours.specs.Inboxes.{held_for, messages_from, table_held, AreFrom, AreInboxes, ComeBySender, InboxView, IsInbox}
+use Rattle.line_colours.specs.Inboxes.{held_for, messages_from, table_held, AreFrom, AreInboxes}
+use Rattle.line_colours.specs.Inboxes.{ComeBySender, InboxView, IsInbox}
 use Rattle.line_colours.proofs.InboxLemmas.{filter-none, held_for-none}
 use Rattle.line_colours.proofs.TableLemmas.{between-of, IsTable-of}
 
@@ -19,7 +21,8 @@ not_sent p m ms below by_sender =
     ne_eqb (get_or (m ∷ ms) k d).from p (λ e. absurd (omega (arith, below, above, e))))
 
 -- the first sender sent the first
-first_sent : (m : MsgName) (ms : List MsgName) → messages_from m.from (m ∷ ms) ≡ m ∷ messages_from m.from ms
+first_sent : (m : MsgName) (ms : List MsgName)
+    → messages_from m.from (m ∷ ms) ≡ m ∷ messages_from m.from ms
 first_sent m ms = ap (λ b. cond b (m ∷ messages_from m.from ms) (messages_from m.from ms))
     (eq-eqb m.from m.from refl)
 
@@ -128,7 +131,8 @@ inbox_same x y to messages = λ i. record { to = to i; messages = messages i }
 
 -- inboxes are the same where they hold the same
 inboxes_same : (n : ℕ) (xs ys : List InboxView) → AreInboxes n xs → AreInboxes n ys
-    → ((p q : ℕ) → p < n → q < n → messages_from p (held_for xs q) ≡ messages_from p (held_for ys q)) → xs ≡ ys
+    → ((p q : ℕ) → p < n → q < n
+    → messages_from p (held_for xs q) ≡ messages_from p (held_for ys q)) → xs ≡ ys
 inboxes_same n [] [] xs_are ys_are same = refl
 inboxes_same n [] (y ∷ ys) xs_are ys_are same =
     let is : IsInbox n y = first_is n y ys ys_are in
@@ -142,10 +146,12 @@ inboxes_same n (x ∷ xs) (y ∷ ys) xs_are ys_are same =
     let x_is : IsInbox n x = first_is n x xs xs_are in
     let y_is : IsInbox n y = first_is n y ys ys_are in
     let no_lower : x.to < y.to
-    → ⊥ = λ below. has_one n x x_is (λ p within. sym (ap (messages_from p) (held_first n x xs xs_are))
+    → ⊥ =
+    λ below. has_one n x x_is (λ p within. sym (ap (messages_from p) (held_first n x xs xs_are))
     ∙ same p x.to within x_is.to ∙ ap (messages_from p) (held_below n y ys ys_are x.to below)) in
     let no_higher : y.to < x.to
-    → ⊥ = λ above. has_one n y y_is (λ p within. sym (ap (messages_from p) (held_first n y ys ys_are))
+    → ⊥ =
+    λ above. has_one n y y_is (λ p within. sym (ap (messages_from p) (held_first n y ys ys_are))
     ∙ sym (same p y.to within y_is.to) ∙ ap (messages_from p) (held_below n x xs xs_are y.to above))
     in
     let tos : x.to ≡ y.to = elim (cases_eq x.to y.to) [
@@ -160,7 +166,8 @@ inboxes_same n (x ∷ xs) (y ∷ ys) xs_are ys_are same =
     sym (ap (messages_from p) (held_first n x xs xs_are)) ∙ same p x.to within x_is.to
     ∙ ap (λ (q : ℕ). messages_from p (held_for (y ∷ ys) q)) tos
     ∙ ap (messages_from p) (held_first n y ys ys_are)) in
-    let others : (p q : ℕ) → p < n → q < n → messages_from p (held_for xs q) ≡ messages_from p (held_for ys q) =
+    let others : (p q : ℕ) → p < n → q < n
+    → messages_from p (held_for xs q) ≡ messages_from p (held_for ys q) =
     λ p q p_within q_within. elim (cases_eq q x.to) [
       | inl equal ↦
           ap (λ (v : ℕ). messages_from p (held_for xs v)) equal

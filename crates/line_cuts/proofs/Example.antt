@@ -1,4 +1,5 @@
--- Two processes: message 0 of process 1 is received before the floor, message 1 is in transit there,
+-- Two processes: message 0 of process 1 is received before the floor, message 1 is in transit
+-- there,
 -- and message 2 is sent after it. The floor is the checks of round 1.
 use Rattle.std.proofs.Common.{◌≡◌, ℕ, List, [], ◌∷◌, Some, None, refl}
 use Rattle.line_names.specs.declared.choices.Choice.TheVariants.{Check as AtCheck, Now}
@@ -6,15 +7,24 @@ use Rattle.line_names.specs.declared.messages.MsgName.{MsgName}
 use Rattle.line_tape.specs.declared.events.Event.TheVariants.{Send, Recv, Check, Mark}
 use Rattle.line_tape.specs.History.{Process}
 use Rattle.line_tape.specs.Transit.{in_transit}
-use Rattle.line_cuts.specs.Cuts.{Floor, floor_line, cut_checks, cut_history, cut_line, whole_floor, whole_line}
+use Rattle.line_cuts.specs.Cuts.{Floor, floor_line, cut_checks, cut_history, cut_line, whole_floor}
+use Rattle.line_cuts.specs.Cuts.{whole_line}
 
 abbrev m : ℕ → MsgName
 m k = record { from = 1; inc = 0; number = k }
 
 abbrev whole : List Process
 whole =
-    record { incarnation = 0; tape = Recv (m 0) ∷ Check [] None ∷ Check [] (Some 1) ∷ Recv (m 1) ∷ Mark 1 1 ∷ Recv (m 2) ∷ [] }
-    ∷ record { incarnation = 0; tape = Send 0 0 [] ∷ Send 0 0 [] ∷ Check [] (Some 1) ∷ Mark 0 1 ∷ Send 0 0 [] ∷ [] }
+    record {
+      incarnation = 0;
+      tape = Recv (m 0) ∷ Check [] None ∷ Check [] (Some 1) ∷ Recv (m 1)
+          ∷ Mark 1 1 ∷ Recv (m 2) ∷ [];
+    }
+    ∷ record {
+      incarnation = 0;
+      tape = Send 0 0 [] ∷ Send 0 0 [] ∷ Check [] (Some 1) ∷ Mark 0 1
+          ∷ Send 0 0 [] ∷ [];
+    }
     ∷ []
 
 abbrev floor : Floor
@@ -39,8 +49,16 @@ back = refl
 -- later both take a check of round 2, before which process 0 has received all
 abbrev longer : List Process
 longer =
-    record { incarnation = 0; tape = Recv (m 0) ∷ Check [] None ∷ Check [] (Some 1) ∷ Recv (m 1) ∷ Mark 1 1 ∷ Recv (m 2) ∷ Check [] (Some 2) ∷ [] }
-    ∷ record { incarnation = 0; tape = Send 0 0 [] ∷ Send 0 0 [] ∷ Check [] (Some 1) ∷ Mark 0 1 ∷ Send 0 0 [] ∷ Check [] (Some 2) ∷ [] }
+    record {
+      incarnation = 0;
+      tape = Recv (m 0) ∷ Check [] None ∷ Check [] (Some 1) ∷ Recv (m 1)
+          ∷ Mark 1 1 ∷ Recv (m 2) ∷ Check [] (Some 2) ∷ [];
+    }
+    ∷ record {
+      incarnation = 0;
+      tape = Send 0 0 [] ∷ Send 0 0 [] ∷ Check [] (Some 1) ∷ Mark 0 1
+          ∷ Send 0 0 [] ∷ Check [] (Some 2) ∷ [];
+    }
     ∷ []
 
 -- a later floor, of what the first one leaves

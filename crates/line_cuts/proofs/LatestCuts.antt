@@ -1,5 +1,6 @@
 -- The latest line of what is left is the latest line of the whole.
-use Rattle.std.proofs.Common.{◌≡◌, ℕ, zero, suc, ◌+◌, ◌-◌, ◌<◌, ◌≤◌, max, Bool, List, [], ◌∷◌, length, map, refl, sym, ap, ◌∙◌, subst, arith, ◌⊎◌, inl, inr}
+use Rattle.std.proofs.Common.{◌≡◌, ℕ, zero, suc, ◌+◌, ◌-◌, ◌<◌, ◌≤◌, max, Bool, List, [], ◌∷◌}
+use Rattle.std.proofs.Common.{length, map, refl, sym, ap, ◌∙◌, subst, arith, ◌⊎◌, inl, inr}
 use Rattle.std.specs.Prelude.{IsTrue}
 use Rattle.std.specs.List.{Contains, range_with_len}
 use Rattle.std.proofs.lemmas.Bool.{cases_lt}
@@ -17,56 +18,75 @@ use Rattle.line_tape.specs.Line.{IsConsistent}
 use Rattle.line_tape.specs.Survival.{survives, IsRecoverable, IsLatest}
 use Rattle.line_tape.specs.Views.{MarksView}
 use Rattle.line_tape.proofs.ChoiceLemmas.{choice-past, IsNoLater-refl, IsNoLater-trans}
-use Rattle.line_cuts.specs.Cuts.{Floor, IsFloor, FloorSurvives, floor_check, lost_checks, floor_line, cut_tape, cut_history, cut_choice, whole_choice, cut_line, whole_line, cut_marks}
+use Rattle.line_cuts.specs.Cuts.{Floor, IsFloor, FloorSurvives, floor_check, lost_checks}
+use Rattle.line_cuts.specs.Cuts.{floor_line, cut_tape, cut_history, cut_choice, whole_choice}
+use Rattle.line_cuts.specs.Cuts.{cut_line, whole_line, cut_marks}
 use Rattle.line_laws.proofs.ChainLemmas.{sent_later}
 use Rattle.line_cuts.proofs.ConsistentCuts.{choice_cut, floor_at, consistent_left, consistent_whole}
 use Rattle.line_cuts.proofs.SurvivalCuts.{survives_cut}
 
 -- lines with the same choice for each process are the same
-pub same_line : (line other : List Choice) → length line ≡ length other → ((p : ℕ) → choice_at line p ≡ choice_at other p) → line ≡ other
+pub same_line : (line other : List Choice) → length line ≡ length other
+    → ((p : ℕ) → choice_at line p ≡ choice_at other p) → line ≡ other
 same_line [] [] long same = refl
 same_line [] (d ∷ other) long same = absurd (omega arith)
 same_line (c ∷ line) [] long same = absurd (omega arith)
 same_line (c ∷ line) (d ∷ other) long same =
-    ap (λ (x : Choice). x ∷ line) (same 0) ∙ ap (λ (xs : List Choice). d ∷ xs) (same_line line other (omega arith) (λ p. same (suc p)))
+    ap (λ (x : Choice). x ∷ line) (same 0) ∙ ap (λ (xs : List Choice). d ∷ xs)
+    (same_line line other (omega arith) (λ p. same (suc p)))
 
-pub length_history : (floor : Floor) (history : List Process) → length (cut_history floor history) ≡ length history
-length_history floor history = length-map-range_with_len (λ q. record (process_at history q) { tape = cut_tape floor q (process_at history q).tape }) 0 (length history)
+pub length_history : (floor : Floor) (history : List Process)
+    → length (cut_history floor history) ≡ length history
+length_history floor history = length-map-range_with_len (λ q. record (process_at history q)
+    { tape = cut_tape floor q (process_at history q).tape }) 0 (length history)
 
 pub length_cut : (floor : Floor) (line : List Choice) → length (cut_line floor line) ≡ length line
-length_cut floor line = length-map-range_with_len (λ q. cut_choice floor q (choice_at line q)) 0 (length line)
+length_cut floor line =
+    length-map-range_with_len (λ q. cut_choice floor q (choice_at line q)) 0 (length line)
 
-pub length_whole : (floor : Floor) (line : List Choice) → length (whole_line floor line) ≡ length line
-length_whole floor line = length-map-range_with_len (λ q. whole_choice floor q (choice_at line q)) 0 (length line)
+pub length_whole : (floor : Floor) (line : List Choice)
+    → length (whole_line floor line) ≡ length line
+length_whole floor line =
+    length-map-range_with_len (λ q. whole_choice floor q (choice_at line q)) 0 (length line)
 
-pub whole_at : (floor : Floor) (line : List Choice) (p : ℕ) → p < length line → choice_at (whole_line floor line) p ≡ whole_choice floor p (choice_at line p)
-whole_at floor line p within = get_or-map-range_with_len (λ q. whole_choice floor q (choice_at line q)) 0 (length line) p p (AtCheck 0) within (omega arith)
+pub whole_at : (floor : Floor) (line : List Choice) (p : ℕ) → p < length line
+    → choice_at (whole_line floor line) p ≡ whole_choice floor p (choice_at line p)
+whole_at floor line p within = get_or-map-range_with_len (λ q. whole_choice floor q
+    (choice_at line q)) 0 (length line) p p (AtCheck 0) within (omega arith)
 
 module _ (floor : Floor) (p : ℕ) where
   -- from the floor on a choice is brought back
-  pub brought_back : (c : Choice) → IsNoLater (AtCheck (floor_check floor p)) c → whole_choice floor p (cut_choice floor p c) ≡ c
+  pub brought_back : (c : Choice) → IsNoLater (AtCheck (floor_check floor p)) c
+      → whole_choice floor p (cut_choice floor p c) ≡ c
   brought_back (AtCheck c) above =
-      let same : max ((c - lost_checks floor p) + lost_checks floor p) (floor_check floor p) ≡ c = omega arith in
+      let same : max ((c - lost_checks floor p) + lost_checks floor p) (floor_check floor p)
+      ≡ c = omega arith in
       ap AtCheck same
   brought_back Now above = refl
 
-  pub sent_back : (c : Choice) → IsNoLater (cut_choice floor p (AtCheck (floor_check floor p))) c → cut_choice floor p (whole_choice floor p c) ≡ c
+  pub sent_back : (c : Choice) → IsNoLater (cut_choice floor p (AtCheck (floor_check floor p))) c
+      → cut_choice floor p (whole_choice floor p c) ≡ c
   sent_back (AtCheck c) above =
-      let same : max (c + lost_checks floor p) (floor_check floor p) - lost_checks floor p ≡ c = omega arith in
+      let same : max (c + lost_checks floor p) (floor_check floor p) - lost_checks floor p
+      ≡ c = omega arith in
       ap AtCheck same
   sent_back Now above = refl
 
-  pub whole_above : (c : Choice) → IsNoLater (AtCheck (floor_check floor p)) (whole_choice floor p c)
+  pub whole_above : (c : Choice)
+      → IsNoLater (AtCheck (floor_check floor p)) (whole_choice floor p c)
   whole_above (AtCheck c) = omega arith
   whole_above Now = tt
 
-  pub cut_order : (c d : Choice) → IsNoLater c d → IsNoLater (cut_choice floor p c) (cut_choice floor p d)
+  pub cut_order : (c d : Choice) → IsNoLater c d
+      → IsNoLater (cut_choice floor p c) (cut_choice floor p d)
   cut_order (AtCheck c) (AtCheck d) h = omega arith
   cut_order (AtCheck c) Now h = tt
   cut_order Now (AtCheck d) h = absurd h
   cut_order Now Now h = tt
 
-  pub whole_order : (c d : Choice) → IsNoLater (AtCheck (floor_check floor p)) c → IsNoLater (AtCheck (floor_check floor p)) d → IsNoLater (cut_choice floor p c) (cut_choice floor p d) → IsNoLater c d
+  pub whole_order : (c d : Choice) → IsNoLater (AtCheck (floor_check floor p)) c
+      → IsNoLater (AtCheck (floor_check floor p)) d
+      → IsNoLater (cut_choice floor p c) (cut_choice floor p d) → IsNoLater c d
   whole_order (AtCheck c) (AtCheck d) a b h = omega arith
   whole_order (AtCheck c) Now a b h = tt
   whole_order Now (AtCheck d) a b h = absurd h
@@ -87,43 +107,57 @@ module _ (floor : Floor) (p : ℕ) where
 
   pub raised_cases : (c : Choice) → (raised c ≡ c) ⊎ (raised c ≡ AtCheck (floor_check floor p))
   raised_cases (AtCheck c) = elim (cases_lt c (floor_check floor p)) [
-    | inl below ↦ let same : max c (floor_check floor p) ≡ floor_check floor p = omega arith in inr (ap AtCheck same)
+    | inl below ↦ let same : max c (floor_check floor p) ≡ floor_check floor p =
+        omega arith in inr (ap AtCheck same)
     | inr above ↦ let same : max c (floor_check floor p) ≡ c = omega arith in inl (ap AtCheck same)
   ]
   raised_cases Now = inl refl
 
 abbrev pub raised_line : Floor → List Choice → List Choice
-raised_line floor line = map (λ p. raised floor p (choice_at line p)) (range_with_len 0 (length line))
+raised_line floor line =
+    map (λ p. raised floor p (choice_at line p)) (range_with_len 0 (length line))
 
-module _ (floor : Floor) (history : List Process) (marks : MarksView) (failed : List Bool) (fit : IsFitUnordered history) (is : IsFloor history floor) (stays : FloorSurvives history marks floor) where
+module _ (floor : Floor) (history : List Process) (marks : MarksView) (failed : List Bool)
+    (fit : IsFitUnordered history) (is : IsFloor history floor)
+    (stays : FloorSurvives history marks floor) where
   -- past the processes the floor is at their initial states
   floor_past : (p : ℕ) → length history ≤ p → floor_check floor p ≡ 0
   floor_past p past =
-      let none : AtCheck (floor_check floor p) ≡ AtCheck 0 = sym (floor_at floor p) ∙ choice-past (floor_line floor) p (omega (arith, is.line.length_is)) in
+      let none : AtCheck (floor_check floor p) ≡ AtCheck 0 = sym (floor_at floor p) ∙ choice-past
+      (floor_line floor) p (omega (arith, is.line.length_is)) in
       cc none
 
   pub floor_exists : (p : ℕ) → floor_check floor p ≤ checks (tape_at history p)
   floor_exists p = subst (HasChoice (tape_at history p)) (floor_at floor p) (is.line.exist p)
 
   -- the floor survives, whoever failed
-  check_either : (p c : ℕ) → survives history marks [] p (AtCheck c) ≡ survives history marks failed p (AtCheck c)
+  check_either : (p c : ℕ)
+      → survives history marks [] p (AtCheck c) ≡ survives history marks failed p (AtCheck c)
   check_either p zero = refl
   check_either p (suc c) = refl
 
-  pub floor_survives : (p : ℕ) → IsTrue (survives history marks failed p (AtCheck (floor_check floor p)))
+  pub floor_survives : (p : ℕ)
+      → IsTrue (survives history marks failed p (AtCheck (floor_check floor p)))
   floor_survives p = elim (cases_lt p (length history)) [
     | inl within ↦ sym (check_either p (floor_check floor p)) ∙ stays p within
     | inr past ↦ ap (λ c. survives history marks failed p (AtCheck c)) (floor_past p past)
   ]
 
-  pub survives_same : (p : ℕ) (c : Choice) → IsNoLater (AtCheck (floor_check floor p)) c → survives (cut_history floor history) (cut_marks floor marks) failed p (cut_choice floor p c) ≡ survives history marks failed p c
-  survives_same p c above = survives_cut floor history marks p failed (floor_exists p) (floor_survives p) c above
+  pub survives_same : (p : ℕ) (c : Choice) → IsNoLater (AtCheck (floor_check floor p)) c
+      → survives (cut_history floor history) (cut_marks floor marks) failed p (cut_choice floor p c)
+      ≡ survives history marks failed p c
+  survives_same p c above =
+      survives_cut floor history marks p failed (floor_exists p) (floor_survives p) c above
 
   -- a recoverable line from the floor on is one of what is left
-  pub recoverable_cut : (line : List Choice) → IsNowhereLater (floor_line floor) line → IsRecoverable history marks failed line → IsRecoverable (cut_history floor history) (cut_marks floor marks) failed (cut_line floor line)
+  pub recoverable_cut : (line : List Choice) → IsNowhereLater (floor_line floor) line
+      → IsRecoverable history marks failed line → IsRecoverable (cut_history floor history)
+      (cut_marks floor marks) failed (cut_line floor line)
   recoverable_cut line above r = record {
     length_is = length_cut floor line ∙ r.length_is ∙ sym (length_history floor history);
-    surviving = λ p. ap (survives (cut_history floor history) (cut_marks floor marks) failed p) (choice_cut floor line p) ∙ survives_same p (choice_at line p) (subst (λ (c : Choice). IsNoLater c (choice_at line p)) (floor_at floor p) (above p)) ∙ r.surviving p;
+    surviving = λ p. ap (survives (cut_history floor history) (cut_marks floor marks) failed p)
+        (choice_cut floor line p) ∙ survives_same p (choice_at line p) (subst (λ
+        (c : Choice). IsNoLater c (choice_at line p)) (floor_at floor p) (above p)) ∙ r.surviving p;
     consistent = consistent_left floor history line above r.consistent;
   }
 
@@ -135,77 +169,115 @@ module _ (floor : Floor) (history : List Process) (marks : MarksView) (failed : 
   }
 
   -- so a latest line of what is left is nowhere before the floor
-  pub floor_below : (line : List Choice) → IsLatest (cut_history floor history) (cut_marks floor marks) failed line → (p : ℕ) → IsNoLater (cut_choice floor p (AtCheck (floor_check floor p))) (choice_at line p)
+  pub floor_below : (line : List Choice)
+      → IsLatest (cut_history floor history) (cut_marks floor marks) failed line → (p : ℕ)
+      → IsNoLater (cut_choice floor p (AtCheck (floor_check floor p))) (choice_at line p)
   floor_below line latest p =
-      subst (λ (c : Choice). IsNoLater c (choice_at line p)) (choice_cut floor (floor_line floor) p ∙ ap (cut_choice floor p) (floor_at floor p))
-      (latest.latest (cut_line floor (floor_line floor)) (recoverable_cut (floor_line floor) (λ q. IsNoLater-refl (choice_at (floor_line floor) q)) floor_recoverable) p)
+      subst (λ (c : Choice). IsNoLater c (choice_at line p))
+      (choice_cut floor (floor_line floor) p ∙ ap (cut_choice floor p) (floor_at floor p))
+      (latest.latest (cut_line floor (floor_line floor)) (recoverable_cut (floor_line floor)
+      (λ q. IsNoLater-refl (choice_at (floor_line floor) q)) floor_recoverable) p)
 
   -- a line raised to the floor
-  raised_at : (line : List Choice) → length line ≡ length history → (p : ℕ) → choice_at (raised_line floor line) p ≡ raised floor p (choice_at line p)
+  raised_at : (line : List Choice) → length line ≡ length history → (p : ℕ)
+      → choice_at (raised_line floor line) p ≡ raised floor p (choice_at line p)
   raised_at line e p = elim (cases_lt p (length line)) [
-    | inl within ↦ get_or-map-range_with_len (λ q. raised floor q (choice_at line q)) 0 (length line) p p (AtCheck 0) within (omega arith)
+    | inl within ↦ get_or-map-range_with_len (λ q. raised floor q (choice_at line q)) 0
+        (length line) p p (AtCheck 0) within (omega arith)
     | inr past ↦
-        let none : length (raised_line floor line) ≤ p = omega (arith, length-map-range_with_len (λ q. raised floor q (choice_at line q)) 0 (length line)) in
+        let none : length (raised_line floor line) ≤ p = omega (
+          arith,
+          length-map-range_with_len
+              (λ q. raised floor q (choice_at line q)) 0 (length line),
+        ) in
         let low : 0 ≡ max 0 (floor_check floor p) = omega (arith, floor_past p (omega arith)) in
-        choice-past (raised_line floor line) p none ∙ ap AtCheck low ∙ ap (raised floor p) (sym (choice-past line p past))
+        choice-past (raised_line floor line) p none ∙ ap AtCheck low ∙ ap (raised floor p)
+        (sym (choice-past line p past))
   ]
 
   module _ (line : List Choice) (r : IsRecoverable history marks failed line) where
     above_floor : IsNowhereLater (floor_line floor) (raised_line floor line)
     above_floor p =
-        subst (λ (c : Choice). IsNoLater c (choice_at (raised_line floor line) p)) (sym (floor_at floor p))
-        (subst (IsNoLater (AtCheck (floor_check floor p))) (sym (raised_at line r.length_is p)) (raised_above floor p (choice_at line p)))
+        subst (λ (c : Choice). IsNoLater c (choice_at (raised_line floor line) p))
+        (sym (floor_at floor p))
+        (subst (IsNoLater (AtCheck (floor_check floor p))) (sym (raised_at line r.length_is p))
+        (raised_above floor p (choice_at line p)))
 
     above_line : IsNowhereLater line (raised_line floor line)
-    above_line p = subst (IsNoLater (choice_at line p)) (sym (raised_at line r.length_is p)) (raised_later floor p (choice_at line p))
+    above_line p = subst (IsNoLater (choice_at line p)) (sym (raised_at line r.length_is p))
+        (raised_later floor p (choice_at line p))
 
     raised_length : length (raised_line floor line) ≡ length history
-    raised_length = length-map-range_with_len (λ q. raised floor q (choice_at line q)) 0 (length line) ∙ r.length_is
+    raised_length = length-map-range_with_len (λ q. raised floor q (choice_at line q)) 0
+        (length line) ∙ r.length_is
 
     raised_recoverable : IsRecoverable history marks failed (raised_line floor line)
     raised_recoverable = record {
       length_is = raised_length;
       surviving = λ p. elim (raised_cases floor p (choice_at line p)) [
-        | inl e ↦ ap (survives history marks failed p) (raised_at line r.length_is p ∙ e) ∙ r.surviving p
-        | inr e ↦ ap (survives history marks failed p) (raised_at line r.length_is p ∙ e) ∙ floor_survives p
+        | inl e ↦ ap (survives history marks failed p)
+            (raised_at line r.length_is p ∙ e) ∙ r.surviving p
+        | inr e ↦ ap (survives history marks failed p)
+            (raised_at line r.length_is p ∙ e) ∙ floor_survives p
       ];
       consistent = λ q m c. elim (raised_cases floor q (choice_at line q)) [
-        | inl e ↦ sent_later history line (raised_line floor line) m above_line (r.consistent q m (subst (λ (d : Choice). Contains (front (tape_at history q) d) (Recv m)) (raised_at line r.length_is q ∙ e) c))
-        | inr e ↦ sent_later history (floor_line floor) (raised_line floor line) m above_floor (is.consistent q m (subst (λ (d : Choice). Contains (front (tape_at history q) d) (Recv m)) (raised_at line r.length_is q ∙ e ∙ sym (floor_at floor q)) c))
+        | inl e ↦ sent_later history line (raised_line floor line) m above_line
+            (r.consistent q m (subst (λ (d : Choice). Contains (front (tape_at history q) d)
+            (Recv m)) (raised_at line r.length_is q ∙ e) c))
+        | inr e ↦ sent_later history (floor_line floor) (raised_line floor line) m above_floor
+            (is.consistent q m (subst (λ (d : Choice). Contains (front (tape_at history q) d)
+            (Recv m)) (raised_at line r.length_is q ∙ e ∙ sym (floor_at floor q)) c))
       ];
     }
 
-  module _ (line : List Choice) (latest : IsLatest (cut_history floor history) (cut_marks floor marks) failed line) where
+  module _ (line : List Choice)
+      (latest : IsLatest (cut_history floor history) (cut_marks floor marks) failed line) where
     count : length line ≡ length history
     count = latest.recoverable.length_is ∙ length_history floor history
 
-    there : (p : ℕ) → p < length history → choice_at (whole_line floor line) p ≡ whole_choice floor p (choice_at line p)
+    there : (p : ℕ) → p < length history
+        → choice_at (whole_line floor line) p ≡ whole_choice floor p (choice_at line p)
     there p within = whole_at floor line p (omega (arith, count))
 
     pub cut_again : cut_line floor (whole_line floor line) ≡ line
-    cut_again = same_line (cut_line floor (whole_line floor line)) line (length_cut floor (whole_line floor line) ∙ length_whole floor line) (λ p. elim (cases_lt p (length history)) [
-      | inl within ↦ choice_cut floor (whole_line floor line) p ∙ ap (cut_choice floor p) (there p within) ∙ sent_back floor p (choice_at line p) (floor_below line latest p)
-      | inr past ↦
-          choice-past (cut_line floor (whole_line floor line)) p (omega (arith, length_cut floor (whole_line floor line), length_whole floor line, count))
-          ∙ sym (choice-past line p (omega (arith, count)))
-    ])
+    cut_again = same_line (cut_line floor (whole_line floor line)) line
+        (length_cut floor (whole_line floor line) ∙ length_whole floor line)
+        (λ p. elim (cases_lt p (length history)) [
+          | inl within ↦ choice_cut floor (whole_line floor line) p ∙ ap (cut_choice floor p)
+              (there p within) ∙ sent_back floor p (choice_at line p) (floor_below line latest p)
+          | inr past ↦
+              choice-past (cut_line floor (whole_line floor line)) p (omega
+              (arith, length_cut floor (whole_line floor line), length_whole floor line, count))
+              ∙ sym (choice-past line p (omega (arith, count)))
+        ])
 
     pub whole_from_floor : IsNowhereLater (floor_line floor) (whole_line floor line)
-    whole_from_floor p = subst (λ (c : Choice). IsNoLater c (choice_at (whole_line floor line) p)) (sym (floor_at floor p)) (elim (cases_lt p (length history)) [
-      | inl within ↦ subst (IsNoLater (AtCheck (floor_check floor p))) (sym (there p within)) (whole_above floor p (choice_at line p))
-      | inr past ↦
-          subst (λ (c : ℕ). IsNoLater (AtCheck c) (choice_at (whole_line floor line) p)) (sym (floor_past p past))
-          (subst (IsNoLater (AtCheck 0)) (sym (choice-past (whole_line floor line) p (omega (arith, length_whole floor line, count)))) (IsNoLater-refl (AtCheck 0)))
-    ])
+    whole_from_floor p = subst (λ (c : Choice). IsNoLater c (choice_at (whole_line floor line) p))
+        (sym (floor_at floor p)) (elim (cases_lt p (length history)) [
+          | inl within ↦ subst (IsNoLater (AtCheck (floor_check floor p))) (sym (there p within))
+              (whole_above floor p (choice_at line p))
+          | inr past ↦
+              subst (λ (c : ℕ). IsNoLater (AtCheck c) (choice_at (whole_line floor line) p))
+              (sym (floor_past p past))
+              (subst (IsNoLater (AtCheck 0)) (sym (choice-past (whole_line floor line) p
+              (omega (arith, length_whole floor line, count)))) (IsNoLater-refl (AtCheck 0)))
+        ])
 
-    from_at : (p : ℕ) → IsNoLater (AtCheck (floor_check floor p)) (choice_at (whole_line floor line) p)
-    from_at p = subst (λ (c : Choice). IsNoLater c (choice_at (whole_line floor line) p)) (floor_at floor p) (whole_from_floor p)
+    from_at : (p : ℕ)
+        → IsNoLater (AtCheck (floor_check floor p)) (choice_at (whole_line floor line) p)
+    from_at p = subst (λ (c : Choice). IsNoLater c (choice_at (whole_line floor line) p))
+        (floor_at floor p) (whole_from_floor p)
 
     pub whole_recoverable : IsRecoverable history marks failed (whole_line floor line)
     whole_recoverable = record {
       length_is = length_whole floor line ∙ count;
-      surviving = λ p. sym (survives_same p (choice_at (whole_line floor line) p) (from_at p)) ∙ ap (survives (cut_history floor history) (cut_marks floor marks) failed p) (sym (choice_cut floor (whole_line floor line) p) ∙ ap (λ (xs : List Choice). choice_at xs p) cut_again) ∙ latest.recoverable.surviving p;
-      consistent = consistent_whole floor history (whole_line floor line) whole_from_floor fit is (subst (IsConsistent (cut_history floor history)) (sym cut_again) latest.recoverable.consistent);
+      surviving = λ p. sym (survives_same p (choice_at (whole_line floor line) p) (from_at p)) ∙ ap
+          (survives (cut_history floor history) (cut_marks floor marks) failed p)
+          (sym (choice_cut floor (whole_line floor line) p) ∙ ap
+          (λ (xs : List Choice). choice_at xs p) cut_again) ∙ latest.recoverable.surviving p;
+      consistent = consistent_whole floor history (whole_line floor line) whole_from_floor fit is
+          (subst (IsConsistent (cut_history floor history))
+          (sym cut_again) latest.recoverable.consistent);
     }
 
     -- the latest line of what is left, brought back, is the latest line of the whole
@@ -214,9 +286,16 @@ module _ (floor : Floor) (history : List Process) (marks : MarksView) (failed : 
       recoverable = whole_recoverable;
       latest = λ other r p.
           let up : List Choice = raised_line floor other in
-          let low : IsNoLater (cut_choice floor p (choice_at up p)) (cut_choice floor p (choice_at (whole_line floor line) p)) =
-          subst (IsNoLater (cut_choice floor p (choice_at up p))) (sym (ap (λ (xs : List Choice). choice_at xs p) cut_again) ∙ choice_cut floor (whole_line floor line) p)
-          (subst (λ (c : Choice). IsNoLater c (choice_at line p)) (choice_cut floor up p) (latest.latest (cut_line floor up) (recoverable_cut up (above_floor other r) (raised_recoverable other r)) p)) in
-          IsNoLater-trans (choice_at other p) (choice_at up p) (choice_at (whole_line floor line) p) (above_line other r p)
-          (whole_order floor p (choice_at up p) (choice_at (whole_line floor line) p) (subst (λ (c : Choice). IsNoLater c (choice_at up p)) (floor_at floor p) (above_floor other r p)) (from_at p) low);
+          let low : IsNoLater (cut_choice floor p (choice_at up p))
+          (cut_choice floor p (choice_at (whole_line floor line) p)) =
+          subst (IsNoLater (cut_choice floor p (choice_at up p))) (sym (ap (λ (xs : List Choice).
+          choice_at xs p) cut_again) ∙ choice_cut floor (whole_line floor line) p)
+          (subst (λ (c : Choice). IsNoLater c (choice_at line p)) (choice_cut floor up p)
+          (latest.latest (cut_line floor up)
+          (recoverable_cut up (above_floor other r) (raised_recoverable other r)) p)) in
+          IsNoLater-trans (choice_at other p) (choice_at up p) (choice_at (whole_line floor line) p)
+          (above_line other r p)
+          (whole_order floor p (choice_at up p) (choice_at (whole_line floor line) p)
+          (subst (λ (c : Choice). IsNoLater c (choice_at up p)) (floor_at floor p)
+          (above_floor other r p)) (from_at p) low);
     }

@@ -1,5 +1,7 @@
 -- What is in transit at a line, in what is left.
-use Rattle.std.proofs.Common.{◌≡◌, ℕ, zero, suc, ◌-◌, ◌<◌, ◌≤◌, Bool, true, false, not, ◌&&◌, cond, List, [], ◌∷◌, ◌++◌, length, take, drop, map, refl, sym, ap, ◌∙◌, subst, arith}
+use Rattle.std.proofs.Common.{◌≡◌, ℕ, zero, suc, ◌-◌, ◌<◌, ◌≤◌, Bool, true, false, not, ◌&&◌, cond}
+use Rattle.std.proofs.Common.{List, [], ◌∷◌, ◌++◌, length, take, drop, map, refl, sym, ap, ◌∙◌}
+use Rattle.std.proofs.Common.{subst, arith}
 use Rattle.std.specs.Prelude.{nat_le, nat_lt, ◌==◌}
 use Rattle.std.specs.List.{All, Contains, filter, flat_map, range_with_len}
 use Rattle.std.proofs.lemmas.Bool.{leb-true, leb-false, false≢true}
@@ -15,10 +17,12 @@ use Rattle.line_tape.specs.Fit.{IsFitUnordered}
 use Rattle.line_tape.specs.Front.{place}
 use Rattle.line_tape.specs.History.{Process, tape_at}
 use Rattle.line_tape.specs.Line.{events_before, IsReceivedBefore}
-use Rattle.line_tape.specs.Transit.{Letter, letters, has_received, is_open_letter, open_letters, in_transit, in_transit_between, addressee_of, addressees}
+use Rattle.line_tape.specs.Transit.{Letter, letters, has_received, is_open_letter, open_letters}
+use Rattle.line_tape.specs.Transit.{in_transit, in_transit_between, addressee_of, addressees}
 use Rattle.line_tape.proofs.FrontLemmas.{Contains-take_more, place-mono}
 use Rattle.line_tape.proofs.TransitLemmas.{has_received-iff, has_received-is}
-use Rattle.line_cuts.specs.Cuts.{Floor, IsFloor, lost_sends, floor_check, floor_line, is_left, cut_name, whole_name, cut_events, cut_history, cut_line}
+use Rattle.line_cuts.specs.Cuts.{Floor, IsFloor, lost_sends, floor_check, floor_line, is_left}
+use Rattle.line_cuts.specs.Cuts.{cut_name, whole_name, cut_events, cut_history, cut_line}
 use Rattle.line_cuts.proofs.ConsistentCuts.{events_cut}
 use Rattle.line_cuts.proofs.EventCuts.{received_left, received_stays}
 use Rattle.line_cuts.proofs.LatestCuts.{length_history}
@@ -37,24 +41,36 @@ names ls = map (λ (letter : Letter). letter.message) ls
 
 module _ (floor : Floor) (p : ℕ) where
   -- the letters of what is left
-  pub letters_cut : (k skip : ℕ) (es : List Event) → letters p (k - lost_sends floor p) (cut_events floor p k skip es) ≡ map (cut_letter floor) (filter (is_kept floor) (letters p k es))
+  pub letters_cut : (k skip : ℕ) (es : List Event) → letters p (k - lost_sends floor p) (cut_events
+      floor p k skip es) ≡ map (cut_letter floor) (filter (is_kept floor) (letters p k es))
   letters_cut k skip [] = refl
   letters_cut k skip (Send to inc body ∷ es) =
       let rest = letters_cut (suc k) skip es in
       elim (nat_le (lost_sends floor p) k) as (λ b. b ≡ nat_le (lost_sends floor p) k
-      → letters p (k - lost_sends floor p) (cond b (Send to inc body ∷ cut_events floor p (suc k) skip es) (cut_events floor p (suc k) skip es))
-      ≡ map (cut_letter floor) (cond b (record { message = record { from = p; inc = inc; number = k }; to = to } ∷ filter (is_kept floor) (letters p (suc k) es)) (filter (is_kept floor) (letters p (suc k) es)))) [
+      → letters p (k - lost_sends floor p) (cond b (Send to inc body
+      ∷ cut_events floor p (suc k) skip es) (cut_events floor p (suc k) skip es))
+      ≡ map (cut_letter floor)
+      (cond b (record { message = record { from = p; inc = inc; number = k }; to = to }
+      ∷ filter (is_kept floor) (letters p (suc k) es))
+      (filter (is_kept floor) (letters p (suc k) es)))) [
         | true ↦ λ e.
             let h : lost_sends floor p ≤ k = leb-true (lost_sends floor p) k (sym e) in
             let next : suc (k - lost_sends floor p) ≡ suc k - lost_sends floor p = omega arith in
-            ap (λ (v : List Letter). record { message = record { from = p; inc = inc; number = k - lost_sends floor p }; to = to } ∷ v) (ap (λ n. letters p n (cut_events floor p (suc k) skip es)) next ∙ rest)
+            ap (λ (v : List Letter). record {
+              message = record { from = p; inc = inc; number = k - lost_sends floor p };
+              to =
+                  to;
+            } ∷ v) (ap (λ n. letters p n (cut_events floor p (suc k) skip es)) next ∙ rest)
         | false ↦ λ e.
             let h : k < lost_sends floor p = leb-false (lost_sends floor p) k (sym e) in
             let next : k - lost_sends floor p ≡ suc k - lost_sends floor p = omega arith in
             ap (λ n. letters p n (cut_events floor p (suc k) skip es)) next ∙ rest
       ] refl
   letters_cut k skip (Recv m ∷ es) =
-      elim (is_left floor m) as (λ b. letters p (k - lost_sends floor p) (cond b (Recv (cut_name floor m) ∷ cut_events floor p k skip es) (cut_events floor p k skip es)) ≡ map (cut_letter floor) (filter (is_kept floor) (letters p k es))) [
+      elim (is_left floor m) as
+      (λ b. letters p (k - lost_sends floor p)
+      (cond b (Recv (cut_name floor m) ∷ cut_events floor p k skip es) (cut_events floor p k
+      skip es)) ≡ map (cut_letter floor) (filter (is_kept floor) (letters p k es))) [
         | true ↦ letters_cut k skip es
         | false ↦ letters_cut k skip es
       ]
@@ -62,17 +78,22 @@ module _ (floor : Floor) (p : ℕ) where
   letters_cut k (suc zero) (Check state round ∷ es) = letters_cut k zero es
   letters_cut k (suc (suc skip)) (Check state round ∷ es) = letters_cut k (suc skip) es
   letters_cut k skip (Mark from round ∷ es) =
-      elim (nat_lt floor.round round) as (λ b. letters p (k - lost_sends floor p) (cond b (Mark from round ∷ cut_events floor p k skip es) (cut_events floor p k skip es)) ≡ map (cut_letter floor) (filter (is_kept floor) (letters p k es))) [
+      elim (nat_lt floor.round round) as
+      (λ b. letters p (k - lost_sends floor p)
+      (cond b (Mark from round ∷ cut_events floor p k skip es) (cut_events floor p k skip es))
+      ≡ map (cut_letter floor) (filter (is_kept floor) (letters p k es))) [
         | true ↦ letters_cut k skip es
         | false ↦ letters_cut k skip es
       ]
 
 -- of letters that pass one test, those that pass another
-filter_twice : (f g : Letter → Bool) (ls : List Letter) → filter f (filter g ls) ≡ filter (λ letter. g letter && f letter) ls
+filter_twice : (f g : Letter → Bool) (ls : List Letter)
+    → filter f (filter g ls) ≡ filter (λ letter. g letter && f letter) ls
 filter_twice f g [] = refl
 filter_twice f g (x ∷ ls) =
     let rest = filter_twice f g ls in
-    elim (g x) as (λ b. filter f (cond b (x ∷ filter g ls) (filter g ls)) ≡ cond (b && f x) (x ∷ filter (λ letter. g letter && f letter) ls) (filter (λ letter. g letter && f letter) ls)) [
+    elim (g x) as (λ b. filter f (cond b (x ∷ filter g ls) (filter g ls)) ≡ cond (b && f x) (x ∷
+    filter (λ letter. g letter && f letter) ls) (filter (λ letter. g letter && f letter) ls)) [
       | true ↦ ap (λ (v : List Letter). cond (f x) (x ∷ v) v) rest
       | false ↦ rest
     ]
@@ -85,62 +106,110 @@ module _ (floor : Floor) (opens after : Letter → Bool) where
     pub same : is_kept floor letter ≡ true → after (cut_letter floor letter) ≡ opens letter
 
   abbrev brought : List Letter → List MsgName
-  brought ls = map (whole_name floor) (names (filter after (map (cut_letter floor) (filter (is_kept floor) ls))))
+  brought ls = map (whole_name floor)
+      (names (filter after (map (cut_letter floor) (filter (is_kept floor) ls))))
 
-  open_step : (letter : Letter) (ls : List Letter) (left shows : Bool) → left ≡ is_kept floor letter → shows ≡ opens letter → IsAlike letter → names (filter opens ls) ≡ brought ls
-      → names (cond shows (letter ∷ filter opens ls) (filter opens ls)) ≡ map (whole_name floor) (names (filter after (map (cut_letter floor) (cond left (letter ∷ filter (is_kept floor) ls) (filter (is_kept floor) ls)))))
+  open_step : (letter : Letter) (ls : List Letter) (left shows : Bool) → left ≡ is_kept floor letter
+      → shows ≡ opens letter → IsAlike letter → names (filter opens ls) ≡ brought ls
+      → names (cond shows (letter ∷ filter opens ls) (filter opens ls))
+      ≡ map (whole_name floor) (names (filter after (map (cut_letter floor)
+      (cond left (letter ∷ filter (is_kept floor) ls) (filter (is_kept floor) ls)))))
   open_step letter ls false true l o is ih = absurd (false≢true (sym (is.gone (sym l)) ∙ sym o))
   open_step letter ls false false l o is ih = ih
   open_step letter ls true shows l o is ih =
       let test : after (cut_letter floor letter) ≡ shows = is.same (sym l) ∙ sym o in
-      elim shows as (λ b. names (cond b (letter ∷ filter opens ls) (filter opens ls)) ≡ map (whole_name floor) (names (cond b (cut_letter floor letter ∷ filter after (map (cut_letter floor) (filter (is_kept floor) ls))) (filter after (map (cut_letter floor) (filter (is_kept floor) ls)))))) [
-        | true ↦ ap (λ (n : MsgName). n ∷ names (filter opens ls)) (sym (name_back floor letter.message (sym l))) ∙ ap (λ (v : List MsgName). whole_name floor (cut_name floor letter.message) ∷ v) ih
+      elim shows as
+      (λ b. names (cond b (letter ∷ filter opens ls) (filter opens ls))
+      ≡ map (whole_name floor)
+      (names (cond b
+      (cut_letter floor letter ∷ filter after (map (cut_letter floor) (filter (is_kept floor)
+      ls))) (filter after (map (cut_letter floor) (filter (is_kept floor) ls)))))) [
+        | true ↦ ap (λ (n : MsgName). n ∷ names (filter opens ls))
+            (sym (name_back floor letter.message (sym l))) ∙ ap
+            (λ (v : List MsgName). whole_name floor (cut_name floor letter.message) ∷ v) ih
         | false ↦ ih
       ]
-      ∙ ap (λ b. map (whole_name floor) (names (cond b (cut_letter floor letter ∷ filter after (map (cut_letter floor) (filter (is_kept floor) ls))) (filter after (map (cut_letter floor) (filter (is_kept floor) ls)))))) (sym test)
+      ∙ ap (λ b. map (whole_name floor)
+      (names (cond b
+      (cut_letter floor letter ∷ filter after (map (cut_letter floor) (filter (is_kept floor)
+      ls))) (filter after (map (cut_letter floor) (filter (is_kept floor) ls)))))) (sym test)
 
   pub open_alike : (ls : List Letter) → All IsAlike ls → names (filter opens ls) ≡ brought ls
   open_alike [] all = refl
-  open_alike (letter ∷ ls) all = open_step letter ls (is_kept floor letter) (opens letter) refl refl (All-head IsAlike letter ls all) (open_alike ls (All-tail IsAlike letter ls all))
+  open_alike (letter ∷ ls) all = open_step letter ls (is_kept floor letter) (opens letter) refl refl
+      (All-head IsAlike letter ls all) (open_alike ls (All-tail IsAlike letter ls all))
 
-module _ (floor : Floor) (history : List Process) (line : List Choice) (above : IsNowhereLater (floor_line floor) line) (fit : IsFitUnordered history) (is : IsFloor history floor) where
-  sent_letters : (p : ℕ) → All (IsLetterOf p (incarnations_sent (tape_at history p)) (addressees (tape_at history p))) (letters p 0 (events_before history line p))
+module _ (floor : Floor) (history : List Process) (line : List Choice) (above : IsNowhereLater
+    (floor_line floor) line) (fit : IsFitUnordered history) (is : IsFloor history floor) where
+  sent_letters : (p : ℕ) → All (IsLetterOf p (incarnations_sent (tape_at history p))
+      (addressees (tape_at history p))) (letters p 0 (events_before history line p))
   sent_letters p =
       let tape : List Event = tape_at history p in
       let n : ℕ = place tape (choice_at line p) in
-      let incs : incarnations_sent tape ≡ incarnations_sent (take n tape) ++ incarnations_sent (drop n tape) = ap incarnations_sent (sym (take-append-drop n tape)) ∙ filter_map-append incarnation_of (take n tape) (drop n tape) in
-      let tos : addressees tape ≡ addressees (take n tape) ++ addressees (drop n tape) = ap addressees (sym (take-append-drop n tape)) ∙ filter_map-append addressee_of (take n tape) (drop n tape) in
-      letters_are p 0 (take n tape) (incarnations_sent tape) (addressees tape) (incarnations_sent (drop n tape)) (addressees (drop n tape)) incs tos
+      let incs : incarnations_sent tape
+      ≡ incarnations_sent (take n tape)
+      ++ incarnations_sent (drop n tape) = ap incarnations_sent (sym (take-append-drop n tape))
+      ∙ filter_map-append incarnation_of (take n tape) (drop n tape) in
+      let tos : addressees tape
+      ≡ addressees (take n tape) ++ addressees (drop n tape) = ap addressees (sym
+      (take-append-drop n tape)) ∙ filter_map-append addressee_of (take n tape) (drop n tape) in
+      letters_are p 0 (take n tape) (incarnations_sent tape) (addressees tape)
+      (incarnations_sent (drop n tape)) (addressees (drop n tape)) incs tos
 
-  received_same : (q : ℕ) (m : MsgName) → is_left floor m ≡ true → has_received (events_before (cut_history floor history) (cut_line floor line) q) (cut_name floor m) ≡ has_received (events_before history line q) m
+  received_same : (q : ℕ) (m : MsgName) → is_left floor m ≡ true
+      → has_received (events_before (cut_history floor history) (cut_line floor line) q)
+      (cut_name floor m) ≡ has_received (events_before history line q) m
   received_same q m left =
       let old : List Event = events_before history line q in
       let new : List Event = events_before (cut_history floor history) (cut_line floor line) q in
       let iff = has_received-iff new (cut_name floor m) in
       has_received-is old m (has_received new (cut_name floor m)) (
         λ h.
-            let l = received_left floor q 0 (floor_check floor q) old (cut_name floor m) (subst (λ (es : List Event). Contains es (Recv (cut_name floor m))) (events_cut floor history line above q) (iff.0 h)) in
-            let same : l.whole ≡ m = sym (name_back floor l.whole l.is) ∙ ap (whole_name floor) (sym l.name) ∙ name_back floor m left in
+            let l = received_left floor q 0 (floor_check floor q) old (cut_name floor m)
+            (subst (λ (es : List Event). Contains es (Recv (cut_name floor m)))
+            (events_cut floor history line above q) (iff.0 h)) in
+            let same : l.whole ≡ m = sym (name_back floor l.whole l.is) ∙ ap (whole_name floor)
+            (sym l.name) ∙ name_back floor m left in
             subst (λ (v : MsgName). Contains old (Recv v)) same l.among,
-        λ c. iff.1 (subst (λ (es : List Event). Contains es (Recv (cut_name floor m))) (sym (events_cut floor history line above q)) (received_stays floor q 0 (floor_check floor q) old m left c)),
+        λ c. iff.1 (subst (λ (es : List Event). Contains es (Recv (cut_name floor m)))
+            (sym (events_cut floor history line above q))
+            (received_stays floor q 0 (floor_check floor q) old m left c)),
       )
 
-  pub received_above : (q : ℕ) (m : MsgName) → IsReceivedBefore history (floor_line floor) q m → IsReceivedBefore history line q m
-  received_above q m c = Contains-take_more (tape_at history q) (place (tape_at history q) (choice_at (floor_line floor) q)) (place (tape_at history q) (choice_at line q)) (Recv m) (place-mono (tape_at history q) (choice_at (floor_line floor) q) (choice_at line q) (above q)) c
+  pub received_above : (q : ℕ) (m : MsgName) → IsReceivedBefore history (floor_line floor) q m
+      → IsReceivedBefore history line q m
+  received_above q m c = Contains-take_more (tape_at history q)
+      (place (tape_at history q) (choice_at (floor_line floor) q))
+      (place (tape_at history q) (choice_at line q)) (Recv m) (place-mono (tape_at history q)
+      (choice_at (floor_line floor) q) (choice_at line q) (above q)) c
 
-  alike : (p : ℕ) (letter : Letter) → IsLetterOf p (incarnations_sent (tape_at history p)) (addressees (tape_at history p)) letter → IsAlike floor (is_open_letter history line) (is_open_letter (cut_history floor history) (cut_line floor line)) letter
+  alike : (p : ℕ) (letter : Letter)
+      → IsLetterOf p (incarnations_sent (tape_at history p)) (addressees (tape_at history p)) letter
+      → IsAlike floor (is_open_letter history line)
+      (is_open_letter (cut_history floor history) (cut_line floor line)) letter
   alike p letter of = record {
     gone = λ e.
-        let below : letter.message.number < lost_sends floor letter.message.from = leb-false (lost_sends floor letter.message.from) letter.message.number e in
-        ap not ((has_received-iff (events_before history line letter.to) letter.message).1 (received_above letter.to letter.message (is.received letter.to letter.message (letter_sent history p letter of) below)));
+        let below : letter.message.number < lost_sends floor letter.message.from = leb-false
+        (lost_sends floor letter.message.from) letter.message.number e in
+        ap not ((has_received-iff (events_before history line letter.to) letter.message).1
+        (received_above letter.to letter.message
+        (is.received letter.to letter.message (letter_sent history p letter of) below)));
     same = λ e. ap not (received_same letter.to letter.message e);
   }
 
-  All-alike : (p : ℕ) (ls : List Letter) → All (IsLetterOf p (incarnations_sent (tape_at history p)) (addressees (tape_at history p))) ls → All (IsAlike floor (is_open_letter history line) (is_open_letter (cut_history floor history) (cut_line floor line))) ls
-  All-alike p ls all = All-weaker (IsLetterOf p (incarnations_sent (tape_at history p)) (addressees (tape_at history p))) (IsAlike floor (is_open_letter history line) (is_open_letter (cut_history floor history) (cut_line floor line))) (alike p) ls all
+  All-alike : (p : ℕ) (ls : List Letter)
+      → All (IsLetterOf p (incarnations_sent (tape_at history p)) (addressees (tape_at history p)))
+      ls → All (IsAlike floor (is_open_letter history line)
+      (is_open_letter (cut_history floor history) (cut_line floor line))) ls
+  All-alike p ls all = All-weaker
+      (IsLetterOf p (incarnations_sent (tape_at history p)) (addressees (tape_at history p)))
+      (IsAlike floor (is_open_letter history line)
+      (is_open_letter (cut_history floor history) (cut_line floor line))) (alike p) ls all
 
   -- what is sent there before the line
-  letters_left : (p : ℕ) → map (cut_letter floor) (filter (is_kept floor) (letters p 0 (events_before history line p))) ≡ letters p 0 (events_before (cut_history floor history) (cut_line floor line) p)
+  letters_left : (p : ℕ)
+      → map (cut_letter floor) (filter (is_kept floor) (letters p 0 (events_before history line p)))
+      ≡ letters p 0 (events_before (cut_history floor history) (cut_line floor line) p)
   letters_left p =
       let es : List Event = events_before history line p in
       let start : 0 - lost_sends floor p ≡ 0 = omega arith in
@@ -149,7 +218,8 @@ module _ (floor : Floor) (history : List Process) (line : List Choice) (above : 
       ∙ ap (letters p 0) (sym (events_cut floor history line above p))
 
   -- of one sender
-  from_cut : (p : ℕ) → names (open_letters history line p) ≡ map (whole_name floor) (names (open_letters (cut_history floor history) (cut_line floor line) p))
+  from_cut : (p : ℕ) → names (open_letters history line p) ≡ map (whole_name floor)
+      (names (open_letters (cut_history floor history) (cut_line floor line) p))
   from_cut p =
       let ls : List Letter = letters p 0 (events_before history line p) in
       let opens = is_open_letter history line in
@@ -158,39 +228,53 @@ module _ (floor : Floor) (history : List Process) (line : List Choice) (above : 
       ∙ ap (λ (v : List Letter). map (whole_name floor) (names (filter after v))) (letters_left p)
 
   -- of one sender, to one process
-  pub between_cut : (p q : ℕ) → in_transit_between history line p q ≡ map (whole_name floor) (in_transit_between (cut_history floor history) (cut_line floor line) p q)
+  pub between_cut : (p q : ℕ) → in_transit_between history line p q ≡ map (whole_name floor)
+      (in_transit_between (cut_history floor history) (cut_line floor line) p q)
   between_cut p q =
       let ls : List Letter = letters p 0 (events_before history line p) in
-      let kept : List Letter = letters p 0 (events_before (cut_history floor history) (cut_line floor line) p) in
+      let kept : List Letter = letters p 0
+      (events_before (cut_history floor history) (cut_line floor line) p) in
       let to = λ (letter : Letter). letter.to == q in
       let opens = is_open_letter history line in
       let after = is_open_letter (cut_history floor history) (cut_line floor line) in
       let both = λ (letter : Letter). opens letter && to letter in
       let there = λ (letter : Letter). after letter && to letter in
-      let alike_both : (letter : Letter) → IsAlike floor opens after letter → IsAlike floor both there letter = λ letter a. record {
+      let alike_both : (letter : Letter) → IsAlike floor opens after letter
+      → IsAlike floor both there letter = λ letter a. record {
         gone = λ e. ap (λ b. b && to letter) (a.gone e);
         same = λ e. ap (λ b. b && to letter) (a.same e);
       } in
       ap names (filter_twice to opens ls)
-      ∙ open_alike floor both there ls (All-weaker (IsAlike floor opens after) (IsAlike floor both there) alike_both ls (All-alike p ls (sent_letters p)))
+      ∙ open_alike floor both there ls (All-weaker (IsAlike floor opens after)
+      (IsAlike floor both there) alike_both ls (All-alike p ls (sent_letters p)))
       ∙ ap (λ (v : List Letter). map (whole_name floor) (names (filter there v))) (letters_left p)
-      ∙ sym (ap (λ (v : List Letter). map (whole_name floor) (names v)) (filter_twice to after kept))
+      ∙ sym (ap (λ (v : List Letter). map (whole_name floor) (names v))
+      (filter_twice to after kept))
 
-  gathered : (ps : List ℕ) → flat_map (λ p. names (open_letters history line p)) ps ≡ map (whole_name floor) (flat_map (λ p. names (open_letters (cut_history floor history) (cut_line floor line) p)) ps)
+  gathered : (ps : List ℕ)
+      → flat_map (λ p. names (open_letters history line p)) ps ≡ map (whole_name floor)
+      (flat_map (λ p. names (open_letters (cut_history floor history) (cut_line floor line) p)) ps)
   gathered [] = refl
   gathered (p ∷ ps) =
-      let new : List MsgName = names (open_letters (cut_history floor history) (cut_line floor line) p) in
-      let rest : List MsgName = flat_map (λ q. names (open_letters (cut_history floor history) (cut_line floor line) q)) ps in
-      ap (λ (v : List MsgName). v ++ flat_map (λ q. names (open_letters history line q)) ps) (from_cut p)
+      let new : List MsgName = names
+      (open_letters (cut_history floor history) (cut_line floor line) p) in
+      let rest : List MsgName = flat_map
+      (λ q. names (open_letters (cut_history floor history) (cut_line floor line) q)) ps in
+      ap (λ (v : List MsgName). v ++ flat_map (λ q. names (open_letters history line q)) ps)
+      (from_cut p)
       ∙ ap (λ (v : List MsgName). map (whole_name floor) new ++ v) (gathered ps)
       ∙ sym (map_both (whole_name floor) new rest)
     where
-      map_both : (f : MsgName → MsgName) (xs ys : List MsgName) → map f (xs ++ ys) ≡ map f xs ++ map f ys
+      map_both : (f : MsgName → MsgName) (xs ys : List MsgName)
+          → map f (xs ++ ys) ≡ map f xs ++ map f ys
       map_both f [] ys = refl
       map_both f (x ∷ xs) ys = ap (λ (v : List MsgName). f x ∷ v) (map_both f xs ys)
 
   -- what is in transit at a line from the floor on is the same, with its names brought back
-  pub transit_cut : in_transit history line ≡ map (whole_name floor) (in_transit (cut_history floor history) (cut_line floor line))
+  pub transit_cut : in_transit history line
+      ≡ map (whole_name floor) (in_transit (cut_history floor history) (cut_line floor line))
   transit_cut =
       gathered (range_with_len 0 (length history))
-      ∙ ap (λ n. map (whole_name floor) (flat_map (λ p. names (open_letters (cut_history floor history) (cut_line floor line) p)) (range_with_len 0 n))) (sym (length_history floor history))
+      ∙ ap (λ n. map (whole_name floor)
+      (flat_map (λ p. names (open_letters (cut_history floor history) (cut_line floor line) p))
+      (range_with_len 0 n))) (sym (length_history floor history))

@@ -11,8 +11,13 @@ module _ (lets : ℕ → ℕ → PostView → Type 0) where
   on_none script post = λ k lt. absurd (omega (arith, lt))
 
   -- to one order more
-  pub on_more : (script : List Order) (k : ℕ) (post now : PostView) → WasLetOn lets script k post → HasDone (take k script) post now → IsPost now → lets now.number k now → WasLetOn lets script (k + 1) post
+  pub on_more : (script : List Order) (k : ℕ) (post now : PostView) → WasLetOn lets script k post
+      → HasDone (take k script) post now → IsPost now → lets now.number k now
+      → WasLetOn lets script (k + 1) post
   on_more script k post now before done known allowed = λ j lt. elim (cases_lt j k) [
     | inl below ↦ before j below
-    | inr past ↦ subst (λ i. (n : PostView) × HasDone (take i script) post n × IsPost n × lets post.number i n) (omega (arith, lt, past)) (now, done, known, subst (λ p. lets p k now) done.0.number allowed)
+    | inr past ↦ subst
+        (λ i. (n : PostView) × HasDone (take i script) post n × IsPost n × lets post.number i n)
+        (omega (arith, lt, past))
+        (now, done, known, subst (λ p. lets p k now) done.0.number allowed)
   ]

@@ -10,5 +10,6 @@ field_is [] i = refl
 field_is (x ∷ xs) zero = refl
 field_is (x ∷ xs) (suc i) = field_is xs i
 
-pub field_found : (xs : List (List ℕ)) (i : ℕ) (o : Option (List ℕ)) → o ≡ field_at xs i → unwrap_or o [] ≡ field xs i
+pub field_found : (xs : List (List ℕ)) (i : ℕ) (o : Option (List ℕ)) → o ≡ field_at xs i
+    → unwrap_or o [] ≡ field xs i
 field_found xs i o e = ap (λ (p : Option (List ℕ)). unwrap_or p []) e ∙ field_is xs i

@@ -1,24 +1,32 @@
 -- Lists by their places, and tests over ranges.
-use Rattle.std.proofs.Common.{◌≡◌, ℕ, zero, suc, ◌+◌, ◌<◌, ◌≤◌, Bool, false, ◌||◌, List, [], ◌∷◌, length, map, get_or, refl, ap, ◌∙◌, arith}
+use Rattle.std.proofs.Common.{◌≡◌, ℕ, zero, suc, ◌+◌, ◌<◌, ◌≤◌, Bool, false, ◌||◌, List, [], ◌∷◌}
+use Rattle.std.proofs.Common.{length, map, get_or, refl, ap, ◌∙◌, arith}
 use Rattle.std.specs.List.{list_any, range_with_len}
 
 -- lists with the same element at each place are the same
-pub same_list : {X : Type 0} (d : X) (xs ys : List X) → length xs ≡ length ys → ((p : ℕ) → p < length xs → get_or xs p d ≡ get_or ys p d) → xs ≡ ys
+pub same_list : {X : Type 0} (d : X) (xs ys : List X) → length xs ≡ length ys
+    → ((p : ℕ) → p < length xs → get_or xs p d ≡ get_or ys p d) → xs ≡ ys
 same_list d [] [] long same = refl
 same_list d [] (y ∷ ys) long same = absurd (omega arith)
 same_list d (x ∷ xs) [] long same = absurd (omega arith)
 same_list {X} d (x ∷ xs) (y ∷ ys) long same =
-    ap (λ (v : X). v ∷ xs) (same 0 (omega arith)) ∙ ap (λ (v : List X). y ∷ v) (same_list d xs ys (omega arith) (λ p h. same (suc p) (omega arith)))
+    ap (λ (v : X). v ∷ xs) (same 0 (omega arith)) ∙ ap (λ (v : List X). y ∷ v)
+    (same_list d xs ys (omega arith) (λ p h. same (suc p) (omega arith)))
 
 -- the same is made of each number of a range
-pub map_same : {X : Type 0} (f g : ℕ → X) (a n : ℕ) → ((v : ℕ) → a ≤ v → v < a + n → f v ≡ g v) → map f (range_with_len a n) ≡ map g (range_with_len a n)
+pub map_same : {X : Type 0} (f g : ℕ → X) (a n : ℕ) → ((v : ℕ) → a ≤ v → v < a + n → f v ≡ g v)
+    → map f (range_with_len a n) ≡ map g (range_with_len a n)
 map_same f g a zero same = refl
-map_same {X} f g a (suc n) same = ap (λ (v : X). v ∷ map f (range_with_len (a + 1) n)) (same a (omega arith) (omega arith)) ∙ ap (λ (v : List X). g a ∷ v) (map_same f g (a + 1) n (λ v l h. same v (omega arith) (omega arith)))
+map_same {X} f g a (suc n) same = ap (λ (v : X). v ∷ map f (range_with_len (a + 1) n))
+    (same a (omega arith) (omega arith)) ∙ ap (λ (v : List X). g a ∷ v)
+    (map_same f g (a + 1) n (λ v l h. same v (omega arith) (omega arith)))
 
 -- tests that agree, and one that nothing passes
-pub any_same : (f g : ℕ → Bool) (xs : List ℕ) → ((v : ℕ) → f v ≡ g v) → list_any f xs ≡ list_any g xs
+pub any_same : (f g : ℕ → Bool) (xs : List ℕ) → ((v : ℕ) → f v ≡ g v)
+    → list_any f xs ≡ list_any g xs
 any_same f g [] same = refl
-any_same f g (x ∷ xs) same = ap (λ b. b || list_any f xs) (same x) ∙ ap (λ b. g x || b) (any_same f g xs same)
+any_same f g (x ∷ xs) same =
+    ap (λ b. b || list_any f xs) (same x) ∙ ap (λ b. g x || b) (any_same f g xs same)
 
 pub any_none : (f : ℕ → Bool) (xs : List ℕ) → ((v : ℕ) → f v ≡ false) → list_any f xs ≡ false
 any_none f [] none = refl

@@ -15,8 +15,10 @@ same_test true b to from = sym (to refl)
 same_test false b to from = sym (false_from_ne_true b (λ t. both_ways false refl (from t)))
 
 -- a held message, as a fact and as a test
-pub held-true : (history : List Process) (message : MsgName) → is_held history message ≡ true → Holds (tape_at history message.from) message.inc message.number
-held-true history message h = held_of (slice_get (incarnations_sent (tape_at history message.from)) message.number) h where
-  held_of : (o : Option ℕ) → option_eq ◌==◌ o (Some message.inc) ≡ true → o ≡ Some message.inc
-  held_of None h = absurd (cc)
-  held_of (Some j) h = ap (λ (n : ℕ). Some n) (eqb-true j message.inc h)
+pub held-true : (history : List Process) (message : MsgName) → is_held history message ≡ true
+    → Holds (tape_at history message.from) message.inc message.number
+held-true history message h =
+    held_of (slice_get (incarnations_sent (tape_at history message.from)) message.number) h where
+      held_of : (o : Option ℕ) → option_eq ◌==◌ o (Some message.inc) ≡ true → o ≡ Some message.inc
+      held_of None h = absurd (cc)
+      held_of (Some j) h = ap (λ (n : ℕ). Some n) (eqb-true j message.inc h)

@@ -1,5 +1,6 @@
 -- What is left of the markers of a round once those are out that recorded nothing.
-use Rattle.std.proofs.Common.{◌≡◌, ◌≢◌, ℕ, zero, suc, ◌+◌, ◌<◌, ◌≤◌, true, false, cond, ltb, List, [], ◌∷◌, length, get_or, refl, sym, ap, ◌∙◌, subst, arith, inl, inr}
+use Rattle.std.proofs.Common.{◌≡◌, ◌≢◌, ℕ, zero, suc, ◌+◌, ◌<◌, ◌≤◌, true, false, cond, ltb, List}
+use Rattle.std.proofs.Common.{[], ◌∷◌, length, get_or, refl, sym, ap, ◌∙◌, subst, arith, inl, inr}
 use Rattle.std.specs.Prelude.{All, remove}
 use Rattle.std.specs.List.Sorted.{IsNonDecreasingBy, IsPartitionPoint}
 use Rattle.std.specs.Option.{unwrap_or}
@@ -8,19 +9,22 @@ use Rattle.std.proofs.lemmas.List.{get_or_default}
 use Rattle.std.proofs.lemmas.List.Elements.{All-nil, All-cons, All-head, All-tail}
 use Rattle.line_marker.specs.Recording.{MarkerView, messages_by, round_of}
 use Rattle.line_names.specs.declared.messages.MsgName.{MsgName}
-use Rattle.line_moves.specs.Openings.{kept_channel, marker_at, marker_of, no_marker, recorded_channel, AreByProcess, AreMarkers}
+use Rattle.line_moves.specs.Openings.{kept_channel, marker_at, marker_of, no_marker}
+use Rattle.line_moves.specs.Openings.{recorded_channel, AreByProcess, AreMarkers}
 
 -- the markers are of later and later processes, the first of them of this one or a later one
 abbrev pub Ascend : ℕ → List MarkerView → Type 0
 Ascend low [] = Unit {0}
 Ascend low (marker ∷ rest) = (low ≤ marker.me) × Ascend (suc marker.me) rest
 
-Ascend-weaker : (low least : ℕ) (markers : List MarkerView) → least ≤ low → Ascend low markers → Ascend least markers
+Ascend-weaker : (low least : ℕ) (markers : List MarkerView) → least ≤ low → Ascend low markers
+    → Ascend least markers
 Ascend-weaker low least [] most is = tt
 Ascend-weaker low least (marker ∷ rest) most is = (omega (arith, most, is.0), is.1)
 
 -- so they stand by process
-least : (low : ℕ) (markers : List MarkerView) → Ascend low markers → (i : ℕ) (d : MarkerView) → i < length markers → low ≤ (get_or markers i d).me
+least : (low : ℕ) (markers : List MarkerView) → Ascend low markers → (i : ℕ) (d : MarkerView)
+    → i < length markers → low ≤ (get_or markers i d).me
 least low [] is i d within = absurd (omega (arith, within))
 least low (marker ∷ rest) is zero d within = is.0
 least low (marker ∷ rest) is (suc i) d within =
@@ -30,45 +34,62 @@ least low (marker ∷ rest) is (suc i) d within =
 pub by_process : (low : ℕ) (markers : List MarkerView) → Ascend low markers → AreByProcess markers
 by_process low [] is i j d less within = absurd (omega (arith, within))
 by_process low (marker ∷ rest) is zero zero d less within = absurd (omega (arith, less))
-by_process low (marker ∷ rest) is zero (suc j) d less within = least (suc marker.me) rest is.1 j d (omega (arith, within))
+by_process low (marker ∷ rest) is zero (suc j) d less within =
+    least (suc marker.me) rest is.1 j d (omega (arith, within))
 by_process low (marker ∷ rest) is (suc i) zero d less within = absurd (omega (arith, less))
-by_process low (marker ∷ rest) is (suc i) (suc j) d less within = by_process (suc marker.me) rest is.1 i j d (omega (arith, less)) (omega (arith, within))
+by_process low (marker ∷ rest) is (suc i) (suc j) d less within =
+    by_process (suc marker.me) rest is.1 i j d (omega (arith, less)) (omega (arith, within))
 
-pub in_order : (markers : List MarkerView) → AreByProcess markers → IsNonDecreasingBy (λ (marker : MarkerView). marker.me) markers
+pub in_order : (markers : List MarkerView) → AreByProcess markers
+    → IsNonDecreasingBy (λ (marker : MarkerView). marker.me) markers
 in_order markers ascend i j d le within = elim (cases_lt i j) [
   | inl less ↦ let more = ascend i j d less within in omega (arith, more)
-  | inr past ↦ let same : i ≡ j = omega (arith, le, past) in omega (arith, ap (λ (k : ℕ). (get_or markers k d).me) same)
+  | inr past ↦ let same : i ≡ j =
+      omega (arith, le, past) in omega (arith, ap (λ (k : ℕ). (get_or markers k d).me) same)
 ]
 
 -- so none is of an earlier one
-none_before : (low q : ℕ) (markers : List MarkerView) → q < low → Ascend low markers → marker_of markers q ≡ no_marker
+none_before : (low q : ℕ) (markers : List MarkerView) → q < low → Ascend low markers
+    → marker_of markers q ≡ no_marker
 none_before low q [] less is = refl
 none_before low q (marker ∷ rest) less is =
-    ap (λ b. cond b marker (marker_of rest q)) (ne_eqb marker.me q (λ e. omega (arith, e, less, is.0)))
+    ap (λ b. cond b marker (marker_of rest q))
+    (ne_eqb marker.me q (λ e. omega (arith, e, less, is.0)))
     ∙ none_before (suc marker.me) q rest (omega (arith, less, is.0)) is.1
 
 -- those of all processes stand at their places
-module _ (first : ℕ) (markers : List MarkerView) (aligned : (q : ℕ) → q < length markers → (marker_at markers q).me ≡ first + q) where
-  later : (marker : MarkerView) (rest : List MarkerView) → markers ≡ marker ∷ rest → (q : ℕ) → q < length rest → (marker_at rest q).me ≡ suc first + q
+module _ (first : ℕ) (markers : List MarkerView)
+    (aligned : (q : ℕ) → q < length markers → (marker_at markers q).me ≡ first + q) where
+  later : (marker : MarkerView) (rest : List MarkerView) → markers ≡ marker ∷ rest → (q : ℕ)
+      → q < length rest → (marker_at rest q).me ≡ suc first + q
   later marker rest e q within =
       let l : length markers ≡ suc (length rest) = ap (λ (ms : List MarkerView). length ms) e in
-      ap (λ (ms : List MarkerView). (marker_at ms (suc q)).me) (sym e) ∙ aligned (suc q) (omega (arith, within, l)) ∙ omega arith
+      ap (λ (ms : List MarkerView). (marker_at ms (suc q)).me) (sym e) ∙ aligned (suc q)
+      (omega (arith, within, l)) ∙ omega arith
 
-pub aligned_ascend : (first : ℕ) (markers : List MarkerView) → ((q : ℕ) → q < length markers → (marker_at markers q).me ≡ first + q) → Ascend first markers
+pub aligned_ascend : (first : ℕ) (markers : List MarkerView)
+    → ((q : ℕ) → q < length markers → (marker_at markers q).me ≡ first + q) → Ascend first markers
 aligned_ascend first [] aligned = tt
 aligned_ascend first (marker ∷ rest) aligned =
-    let own : marker.me ≡ first = aligned 0 (omega arith) ∙ omega arith in
-    (omega (arith, own), subst (λ (k : ℕ). Ascend (suc k) rest) (sym own) (aligned_ascend (suc first) rest (later first (marker ∷ rest) aligned marker rest refl)))
+    let own : marker.me ≡ first = aligned 0 (omega arith) ∙ omega arith in (
+      omega (arith, own),
+      subst (λ (k : ℕ). Ascend (suc k) rest) (sym own)
+          (aligned_ascend (suc first) rest (later first (marker ∷ rest) aligned marker rest refl)),
+    )
 
 -- the first marker of a process is the one that is found
-pub found_at : (markers : List MarkerView) (i q : ℕ) → i < length markers → ((k : ℕ) → k < i → (marker_at markers k).me ≢ q) → (marker_at markers i).me ≡ q → marker_of markers q ≡ marker_at markers i
+pub found_at : (markers : List MarkerView) (i q : ℕ) → i < length markers
+    → ((k : ℕ) → k < i → (marker_at markers k).me ≢ q) → (marker_at markers i).me ≡ q
+    → marker_of markers q ≡ marker_at markers i
 found_at [] i q within before at = absurd (omega (arith, within))
-found_at (marker ∷ rest) zero q within before at = ap (λ b. cond b marker (marker_of rest q)) (eq-eqb marker.me q at)
+found_at (marker ∷ rest) zero q within before at =
+    ap (λ b. cond b marker (marker_of rest q)) (eq-eqb marker.me q at)
 found_at (marker ∷ rest) (suc i) q within before at =
     ap (λ b. cond b marker (marker_of rest q)) (ne_eqb marker.me q (before 0 (omega arith)))
     ∙ found_at rest i q (omega (arith, within)) (λ k less. before (suc k) (omega (arith, less))) at
 
-pub found_nowhere : (markers : List MarkerView) (q : ℕ) → ((k : ℕ) → k < length markers → (marker_at markers k).me ≢ q) → marker_of markers q ≡ no_marker
+pub found_nowhere : (markers : List MarkerView) (q : ℕ) →
+    ((k : ℕ) → k < length markers → (marker_at markers k).me ≢ q) → marker_of markers q ≡ no_marker
 found_nowhere [] q none = refl
 found_nowhere (marker ∷ rest) q none =
     ap (λ b. cond b marker (marker_of rest q)) (ne_eqb marker.me q (none 0 (omega arith)))
@@ -76,17 +97,21 @@ found_nowhere (marker ∷ rest) q none =
 
 -- what a search finds at the place where those of the processes before end
 module _ (markers : List MarkerView) (to place : ℕ)
-    (point : IsPartitionPoint (λ (marker : MarkerView). ltb marker.me to ≡ true) (λ (marker : MarkerView). ltb marker.me to ≡ false) markers place) where
+    (point : IsPartitionPoint (λ (marker : MarkerView). ltb marker.me to ≡ true)
+    (λ (marker : MarkerView). ltb marker.me to ≡ false) markers place) where
   before_place : (k : ℕ) → k < place → (marker_at markers k).me < to
-  before_place k below = ltb-true (marker_at markers k).me to (point.0 k no_marker (omega arith) below)
+  before_place k below =
+      ltb-true (marker_at markers k).me to (point.0 k no_marker (omega arith) below)
 
-  module _ (marker : MarkerView) (within : place < length markers) (is : marker ≡ get_or markers place marker) where
+  module _ (marker : MarkerView) (within : place < length markers)
+      (is : marker ≡ get_or markers place marker) where
     own : marker ≡ marker_at markers place
     own = is ∙ get_or_default markers place marker no_marker within
 
     pub search_found : marker.me ≡ to → marker_of markers to ≡ marker
     search_found same =
-        found_at markers place to within (λ k below e. absurd (omega (arith, before_place k below, e))) (ap (λ (m : MarkerView). m.me) (sym own) ∙ same)
+        found_at markers place to within (λ k below e. absurd (omega
+        (arith, before_place k below, e))) (ap (λ (m : MarkerView). m.me) (sym own) ∙ same)
         ∙ sym own
 
     pub search_lost : AreByProcess markers → marker.me ≢ to → marker_of markers to ≡ no_marker
@@ -94,31 +119,39 @@ module _ (markers : List MarkerView) (to place : ℕ)
       | inl below ↦ λ e. absurd (omega (arith, before_place k below, e))
       | inr above ↦
           let here : marker.me ≡ (marker_at markers place).me = ap (λ (m : MarkerView). m.me) own in
-          let high = ltb-false (marker_at markers place).me to (point.1 place no_marker (omega arith) within) in
+          let high = ltb-false (marker_at markers place).me to
+          (point.1 place no_marker (omega arith) within) in
           let behind = in_order markers ascend place k no_marker above k_within in
           λ e. absurd (other (omega (arith, here, high, behind, e)))
     ])
 
   pub search_past : length markers ≤ place → marker_of markers to ≡ no_marker
-  search_past past = found_nowhere markers to (λ k k_within e. absurd (omega (arith, before_place k (omega (arith, k_within, past)), e)))
+  search_past past = found_nowhere markers to
+      (λ k k_within e. absurd (omega (arith, before_place k (omega (arith, k_within, past)), e)))
 
 -- of the markers of all processes each is found at its place
-pub found_all : (n r p q : ℕ) (markers : List MarkerView) → AreMarkers n markers → q < n → kept_channel markers r p q ≡ recorded_channel markers r p q
+pub found_all : (n r p q : ℕ) (markers : List MarkerView) → AreMarkers n markers → q < n
+    → kept_channel markers r p q ≡ recorded_channel markers r p q
 found_all n r p q markers are within =
     ap (λ (marker : MarkerView). unwrap_or (messages_by (round_of marker.rounds r) p) [])
-    (found_at markers q q (omega (arith, within, are.count)) (λ k less e. omega (arith, less, e, are.me_is k (omega (arith, less, within)))) (are.me_is q within))
+    (found_at markers q q (omega (arith, within, are.count)) (λ k less e. omega
+    (arith, less, e, are.me_is k (omega (arith, less, within)))) (are.me_is q within))
 
 -- what all are stays so for what is left
-pub All-removed : {X : Type 0} (P : X → Type 0) (xs : List X) (j : ℕ) → All P xs → All P (remove xs j)
+pub All-removed : {X : Type 0} (P : X → Type 0) (xs : List X) (j : ℕ) → All P xs
+    → All P (remove xs j)
 All-removed P [] zero all = All-nil P
 All-removed P [] (suc j) all = All-nil P
 All-removed P (x ∷ xs) zero all = All-tail P x xs all
-All-removed P (x ∷ xs) (suc j) all = All-cons P x (remove xs j) (All-head P x xs all) (All-removed P xs j (All-tail P x xs all))
+All-removed P (x ∷ xs) (suc j) all =
+    All-cons P x (remove xs j) (All-head P x xs all) (All-removed P xs j (All-tail P x xs all))
 
-pub Ascend-removed : (low : ℕ) (markers : List MarkerView) (j : ℕ) → Ascend low markers → Ascend low (remove markers j)
+pub Ascend-removed : (low : ℕ) (markers : List MarkerView) (j : ℕ) → Ascend low markers
+    → Ascend low (remove markers j)
 Ascend-removed low [] zero is = tt
 Ascend-removed low [] (suc j) is = tt
-Ascend-removed low (marker ∷ rest) zero is = Ascend-weaker (suc marker.me) low rest (omega (arith, is.0)) is.1
+Ascend-removed low (marker ∷ rest) zero is =
+    Ascend-weaker (suc marker.me) low rest (omega (arith, is.0)) is.1
 Ascend-removed low (marker ∷ rest) (suc j) is = (is.0, Ascend-removed (suc marker.me) rest j is.1)
 
 module _ (r p q : ℕ) where
@@ -126,7 +159,9 @@ module _ (r p q : ℕ) where
   told marker = unwrap_or (messages_by (round_of marker.rounds r) p) []
 
   -- without a marker that recorded nothing of a channel, the same is kept of it
-  pub kept_removed : (low : ℕ) (markers : List MarkerView) (j : ℕ) → Ascend low markers → j < length markers → told (marker_at markers j) ≡ [] → kept_channel (remove markers j) r p q ≡ kept_channel markers r p q
+  pub kept_removed : (low : ℕ) (markers : List MarkerView) (j : ℕ) → Ascend low markers
+      → j < length markers → told (marker_at markers j) ≡ []
+      → kept_channel (remove markers j) r p q ≡ kept_channel markers r p q
   kept_removed low [] j is within silent = absurd (omega (arith, within))
   kept_removed low (marker ∷ rest) zero is within silent = elim (cases_eq marker.me q) [
     | inl same ↦

@@ -17,9 +17,12 @@ is_name-true a b h =
     let from : a.from ≡ b.from = eqb-true a.from b.from outer.0 in
     let inc : a.inc ≡ b.inc = eqb-true a.inc b.inc inner.0 in
     let number : a.number ≡ b.number = eqb-true a.number b.number inner.1 in
-    ap (λ x. name_of x a.inc a.number) from ∙ ap (λ x. name_of b.from x a.number) inc ∙ ap (λ x. name_of b.from b.inc x) number
+    ap (λ x. name_of x a.inc a.number) from ∙ ap (λ x. name_of b.from x a.number) inc ∙ ap
+    (λ x. name_of b.from b.inc x) number
 
 -- a name passes the test with itself
 pub is_name-same : (a b : MsgName) → a ≡ b → is_name a b ≡ true
 is_name-same a b h =
-    both_true (eq-eqb a.from b.from (ap (λ (m : MsgName). m.from) h)) (both_true (eq-eqb a.inc b.inc (ap (λ (m : MsgName). m.inc) h)) (eq-eqb a.number b.number (ap (λ (m : MsgName). m.number) h)))
+    both_true (eq-eqb a.from b.from (ap (λ (m : MsgName). m.from) h))
+    (both_true (eq-eqb a.inc b.inc (ap (λ (m : MsgName). m.inc) h))
+    (eq-eqb a.number b.number (ap (λ (m : MsgName). m.number) h)))

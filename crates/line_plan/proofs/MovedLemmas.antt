@@ -1,5 +1,6 @@
 -- One visit after another.
-use Rattle.std.proofs.Common.{◌≡◌, ℕ, ◌+◌, Bool, true, false, ◌||◌, List, sym, ◌∙◌, subst, refl, arith}
+use Rattle.std.proofs.Common.{◌≡◌, ℕ, ◌+◌, Bool, true, false, ◌||◌, List, sym, ◌∙◌, subst, refl}
+use Rattle.std.proofs.Common.{arith}
 use Rattle.std.proofs.lemmas.Bool.{or_parts, false≢true}
 use borrow.Author.Count.{below_more}
 use Rattle.line_names.specs.declared.choices.Choice.{Choice}
@@ -9,7 +10,8 @@ use Rattle.line_plan.specs.Search.{IsMoved, AreSentBelow}
 
 module _ (history : List Process) where
   -- two visits move the line as one
-  pub IsMoved-on : (old mid new : List Choice) (e f g : ℕ) (a b : Bool) → IsMoved history old e a mid f → IsMoved history mid f b new g → IsMoved history old e (a || b) new g
+  pub IsMoved-on : (old mid new : List Choice) (e f g : ℕ) (a b : Bool) → IsMoved history old e a
+      mid f → IsMoved history mid f b new g → IsMoved history old e (a || b) new g
   IsMoved-on old mid new e f g true true first second = record {
     same_line = λ h. absurd (false≢true (sym h));
     same_entries = λ h. absurd (false≢true (sym h));
@@ -36,8 +38,12 @@ module _ (history : List Process) where
   }
 
   -- where no visit lowered the line, each process visited still has no orphan
-  pub AreSentBelow-on : (mid new : List Choice) (f g q : ℕ) (a b : Bool) → IsMoved history mid f b new g → (a ≡ false → AreSentBelow history mid q) → AreSentBefore history new (events_before history new q) → (a || b) ≡ false → AreSentBelow history new (q + 1)
+  pub AreSentBelow-on : (mid new : List Choice) (f g q : ℕ) (a b : Bool)
+      → IsMoved history mid f b new g → (a ≡ false → AreSentBelow history mid q)
+      → AreSentBefore history new (events_before history new q) → (a || b) ≡ false
+      → AreSentBelow history new (q + 1)
   AreSentBelow-on mid new f g q a b moved before here h =
       let parts = or_parts a b h in
       let same : new ≡ mid = moved.same_line parts.1 in
-      below_more (λ k. AreSentBefore history new (events_before history new k)) q (subst (λ (line : List Choice). AreSentBelow history line q) (sym same) (before parts.0)) here
+      below_more (λ k. AreSentBefore history new (events_before history new k)) q (subst
+      (λ (line : List Choice). AreSentBelow history line q) (sym same) (before parts.0)) here

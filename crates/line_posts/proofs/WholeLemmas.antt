@@ -1,5 +1,6 @@
 -- Workers of a first generation that come back whole can be gathered.
-use Rattle.std.proofs.Common.{◌≡◌, ◌∙◌, ℕ, zero, suc, List, length, get_or, replicate, refl, sym, ap, arith}
+use Rattle.std.proofs.Common.{◌≡◌, ◌∙◌, ℕ, zero, suc, List, length, get_or, replicate, refl, sym}
+use Rattle.std.proofs.Common.{ap, arith}
 use Rattle.std.specs.Prelude.{Bool, false}
 use Rattle.std.proofs.lemmas.Bool.{false≢true}
 use Rattle.std.proofs.lemmas.Option.{slice_get_within, slice_get-get_or}
@@ -17,11 +18,13 @@ incarnation_start (suc n) zero = refl
 incarnation_start (suc n) (suc p) = incarnation_start n p
 
 -- nobody failed, so nobody of another number
-pub none_below : (n : ℕ) (failed : List Bool) → ((q : ℕ) → is_member failed q ≡ false) → AreBelow n failed
+pub none_below : (n : ℕ) (failed : List Bool) → ((q : ℕ) → is_member failed q ≡ false)
+    → AreBelow n failed
 none_below n failed none q is = absurd (false≢true (sym (none q) ∙ is))
 
 -- they are one for each process of the collector still
-pub whole_kept : (first last : CollectorView) (old new : List PostView) → last.opening ≡ first.opening → AreSamePosts old new → AreWhole first old → AreWhole last new
+pub whole_kept : (first last : CollectorView) (old new : List PostView)
+    → last.opening ≡ first.opening → AreSamePosts old new → AreWhole first old → AreWhole last new
 whole_kept first last old new opening s (long, order) = (
   s.count ∙ (long ∙ ap length (sym opening)),
   λ p b hb.

@@ -11,9 +11,11 @@ use Rattle.line_scripts.specs.Names.{name_text}
 use Rattle.line_scripts.specs.Scripts.{command_in}
 
 other_text : (xs ys : List ℕ) → xs ≢ ys → bytes_eq xs ys ≡ false
-other_text xs ys other = elim (cases_Bool (bytes_eq xs ys)) [ inl e ↦ absurd (other ((bytes_eq-Decides xs ys).0 e)) | inr e ↦ e ]
+other_text xs ys other = elim (cases_Bool (bytes_eq xs ys))
+    [ inl e ↦ absurd (other ((bytes_eq-Decides xs ys).0 e)) | inr e ↦ e ]
 
-named_otherwise : (n : ℕ) (r : Record) → ((name : Name) → bytes_eq (field r 0) (name_text name) ≡ false) → command_in n r ≡ Err faults.BadRecord
+named_otherwise : (n : ℕ) (r : Record) → ((name : Name)
+    → bytes_eq (field r 0) (name_text name) ≡ false) → command_in n r ≡ Err faults.BadRecord
 unfolding command_in
 named_otherwise n r other =
     rw (
@@ -36,5 +38,7 @@ named_otherwise n r other =
     ) refl
 
 -- such a record spells no command
-pub no_command : (n : ℕ) (r : Record) (first : List ℕ) → first ≡ field r 0 → ((name : Name) → first ≢ name_text name) → command_in n r ≡ Err faults.BadRecord
-no_command n r first is other = named_otherwise n r (λ name. other_text (field r 0) (name_text name) (rw (sym is) (other name)))
+pub no_command : (n : ℕ) (r : Record) (first : List ℕ) → first ≡ field r 0
+    → ((name : Name) → first ≢ name_text name) → command_in n r ≡ Err faults.BadRecord
+no_command n r first is other =
+    named_otherwise n r (λ name. other_text (field r 0) (name_text name) (rw (sym is) (other name)))

@@ -1,6 +1,8 @@
 -- Marks in the order of their numbers: what one mark more, a look for a check and a cut do to the
 -- list of the damaged checks.
-use Rattle.std.proofs.Common.{◌≡◌, ℕ, suc, ◌+◌, ◌-◌, ◌<◌, ◌≤◌, Bool, true, false, ◌||◌, eqb, cond, List, [], ◌∷◌, ◌++◌, length, get_or, map, filter, None, Some, refl, sym, ap, ◌∙◌, arith}
+use Rattle.std.proofs.Common.{◌≡◌, ℕ, suc, ◌+◌, ◌-◌, ◌<◌, ◌≤◌, Bool, true, false, ◌||◌, eqb, cond}
+use Rattle.std.proofs.Common.{List, [], ◌∷◌, ◌++◌, length, get_or, map, filter, None, Some, refl}
+use Rattle.std.proofs.Common.{sym, ap, ◌∙◌, arith}
 use Rattle.std.specs.Prelude.{nat_le, nat_lt, is_some, slice_get, ◌==◌, ◌↔◌, Option, IsSome, IfSome}
 use Rattle.std.specs.List.{All, list_any}
 use Rattle.std.specs.Map.{lookup, keys_of}
@@ -8,7 +10,8 @@ use Rattle.std.specs.BTreeMap.{insert_entry, is_at}
 use Rattle.std.specs.Ordering.{nat_cmp, is_eq, is_lt, match_ordering}
 use Rattle.std.specs.declared.cmp.Ordering.{Ordering}
 use Rattle.std.specs.declared.cmp.Ordering.TheVariants.{Less, Equal, Greater}
-use Rattle.std.proofs.lemmas.Bool.{le-leb, lt-leb, leb-true, leb-false, ltb-false, le-ltb, eq-eqb, ne_eqb, true≢false, false≢true}
+use Rattle.std.proofs.lemmas.Bool.{le-leb, lt-leb, leb-true, leb-false, ltb-false, le-ltb, eq-eqb}
+use Rattle.std.proofs.lemmas.Bool.{ne_eqb, true≢false, false≢true}
 use Rattle.std.proofs.lemmas.Cmp.{ranked, by_ranked}
 use Rattle.std.proofs.lemmas.List.Elements.{filter-append, All-cons}
 use Rattle.std.proofs.lemmas.List.Folds.{list_any_none}
@@ -258,7 +261,8 @@ module _ (test : ℕ × ℕ → Bool) where
       elim (nat_le mark.1 first.1)
       as (λ b. filter test (cond b (mark ∷ first ∷ rest) (first ∷ put_mark mark rest))
       ≡ filter test (first ∷ rest)) [
-        | true ↦ ap (λ b. cond b (mark ∷ filter test (first ∷ rest)) (filter test (first ∷ rest))) fails
+        | true ↦ ap (λ b. cond b (mark ∷ filter test (first ∷ rest)) (filter test (first ∷ rest)))
+            fails
         | false ↦ ap (λ ms. cond (test first) (first ∷ ms) ms) (filter_cut mark rest fails)
       ]
 

@@ -1,5 +1,6 @@
 -- The numbers of the faults of a claim, and what is told of a check text.
-use Rattle.std.proofs.Common.{◌≡◌, ℕ, List, [], ◌∷◌, Option, Ok, length, refl, ap, ◌∙◌, subst, sym, arith}
+use Rattle.std.proofs.Common.{◌≡◌, ℕ, List, [], ◌∷◌, Option, Ok, length, refl, ap, ◌∙◌, subst, sym}
+use Rattle.std.proofs.Common.{arith}
 use Rattle.line_check.specs.declared.answers.Replay.{Replay}
 use Rattle.line_check.specs.declared.answers.Start.{Start}
 use Rattle.line_check.specs.Answers.{WholeAnswer}
@@ -13,10 +14,16 @@ use Rattle.line_claims.specs.Texts.{Check, check_of_text}
 use Rattle.line_devices.specs.Devices.{Puts, PutsButEnd}
 use Rattle.line_devices.proofs.PutLemmas.{puts_both}
 use Rattle.line_fields.specs.Texts.{record_text}
-use Rattle.line_text.specs.Judgings.{IsVerdict, IsVerdictOn, JudgesText, answer_in, fault_code, verdict_record}
+use Rattle.line_text.specs.Judgings.{IsVerdict, IsVerdictOn, JudgesText, answer_in, fault_code}
+use Rattle.line_text.specs.Judgings.{verdict_record}
 
-pub code_is : (fault : FaultCode) (code : ℕ) → (fault ≡ faults.NotTop → code ≡ 11) → (fault ≡ faults.NotReceived → code ≡ 12) → (fault ≡ faults.NotOrphan → code ≡ 13) → (fault ≡ faults.LineDiffers → code ≡ 14) → (fault ≡ faults.NotConsistent → code ≡ 15)
-    → (fault ≡ faults.BadShape → code ≡ 16) → (fault ≡ faults.StateDiffers → code ≡ 41) → (fault ≡ faults.IncarnationDiffers → code ≡ 42) → (fault ≡ faults.NotInTransit → code ≡ 43) → (fault ≡ faults.ReplayDiffers → code ≡ 44) → (fault ≡ faults.ReplayRepeated → code ≡ 45)
+pub code_is : (fault : FaultCode) (code : ℕ) → (fault ≡ faults.NotTop → code ≡ 11)
+    → (fault ≡ faults.NotReceived → code ≡ 12) → (fault ≡ faults.NotOrphan → code ≡ 13)
+    → (fault ≡ faults.LineDiffers → code ≡ 14) → (fault ≡ faults.NotConsistent → code ≡ 15)
+    → (fault ≡ faults.BadShape → code ≡ 16) → (fault ≡ faults.StateDiffers → code ≡ 41)
+    → (fault ≡ faults.IncarnationDiffers → code ≡ 42)
+    → (fault ≡ faults.NotInTransit → code ≡ 43) → (fault ≡ faults.ReplayDiffers → code ≡ 44)
+    → (fault ≡ faults.ReplayRepeated → code ≡ 45)
     → (fault ≡ faults.ReplayMissing → code ≡ 46) → code ≡ fault_code fault
 code_is faults.NotTop code a b c d e f g h i j k l = a refl
 code_is faults.NotReceived code a b c d e f g h i j k l = b refl
@@ -32,29 +39,41 @@ code_is faults.ReplayRepeated code a b c d e f g h i j k l = k refl
 code_is faults.ReplayMissing code a b c d e f g h i j k l = l refl
 
 abbrev pub answer_with : List Choice → List Passed → List Start → List Replay → WholeAnswer
-answer_with line certificate starts replays = record { line = line; certificate = certificate; starts = starts; replays = replays }
+answer_with line certificate starts replays =
+    record { line = line; certificate = certificate; starts = starts; replays = replays }
 
 -- a claim does not say where the processes go on
-pub verdict_none : (starts : List Start) (check : Check) (verdict : Option CertFault) → length starts ≡ 0 → IsVerdictOn [] check verdict → IsVerdictOn starts check verdict
+pub verdict_none : (starts : List Start) (check : Check) (verdict : Option CertFault)
+    → length starts ≡ 0 → IsVerdictOn [] check verdict → IsVerdictOn starts check verdict
 verdict_none [] check verdict none on = on
 verdict_none (start ∷ others) check verdict none on = absurd (omega (arith, none))
 
 -- it does
-pub verdict_some : (starts : List Start) (check : Check) (verdict : Option CertFault) → (length starts ≡ 0 → ⊥) → ((start : Start) (others : List Start) → IsVerdictOn (start ∷ others) check verdict) → IsVerdictOn starts check verdict
+pub verdict_some : (starts : List Start) (check : Check) (verdict : Option CertFault)
+    → (length starts ≡ 0 → ⊥) → ((start : Start) (others : List Start)
+    → IsVerdictOn (start ∷ others) check verdict) → IsVerdictOn starts check verdict
 verdict_some [] check verdict some on = absurd (some refl)
 verdict_some (start ∷ others) check verdict some on = on start others
 
 -- the answer that is lent is the one that the claim has
-pub answer_same : (claim : Claim) (certificate : List Passed) (starts : List Start) (replays : List Replay) → certificate ≡ claim.certificate → starts ≡ claim.starts → replays ≡ claim.replays
+pub answer_same : (claim : Claim) (certificate : List Passed) (starts : List Start) (replays : List
+    Replay) → certificate ≡ claim.certificate → starts ≡ claim.starts → replays ≡ claim.replays
     → answer_with claim.line certificate starts replays ≡ answer_in claim
 answer_same claim certificate starts replays a b c =
-    ap (λ (xs : List Passed). answer_with claim.line xs starts replays) a ∙ ap (λ (xs : List Start). answer_with claim.line claim.certificate xs replays) b ∙ ap (answer_with claim.line claim.certificate claim.starts) c
+    ap (λ (xs : List Passed). answer_with claim.line xs starts replays) a ∙ ap
+    (λ (xs : List Start). answer_with claim.line claim.certificate xs replays) b ∙ ap
+    (answer_with claim.line claim.certificate claim.starts) c
 
 -- the verdict on what a text spells was put
-pub judges_text : (text : List ℕ) (check : Check) (verdict : Option CertFault) (old new : Option (List ℕ)) → check_of_text text ≡ Ok check → IsVerdict check verdict → Puts old new (record_text (verdict_record verdict))
+pub judges_text : (text : List ℕ) (check : Check) (verdict : Option CertFault)
+    (old new : Option (List ℕ)) → check_of_text text ≡ Ok check → IsVerdict check verdict
+    → Puts old new (record_text (verdict_record verdict))
     → JudgesText text verdict old new
-judges_text text check verdict old new spelt judged put = record { check = check; spelt = spelt; judged = judged; put = put }
+judges_text text check verdict old new spelt judged put =
+    record { check = check; spelt = spelt; judged = judged; put = put }
 
 -- a text was put but for its end, and then its end
-pub puts_end : (old mid new : Option (List ℕ)) (held text : List ℕ) → PutsButEnd old mid held text → Puts mid new held → Puts old new text
-puts_end old mid new held text h put = subst (λ (t : List ℕ). Puts old new t) (sym h.parts) (puts_both old mid new h.front held h.put put)
+pub puts_end : (old mid new : Option (List ℕ)) (held text : List ℕ) → PutsButEnd old mid held text
+    → Puts mid new held → Puts old new text
+puts_end old mid new held text h put = subst (λ (t : List ℕ). Puts old new t) (sym h.parts)
+    (puts_both old mid new h.front held h.put put)

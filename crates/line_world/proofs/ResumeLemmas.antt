@@ -1,5 +1,6 @@
 -- What links hold where no round is open, and what is known of such a world.
-use Rattle.std.proofs.Common.{◌≡◌, ℕ, zero, suc, ◌+◌, ◌<◌, false, List, [], length, map, replicate, Option, Some, None, sym, ◌∙◌, subst, arith}
+use Rattle.std.proofs.Common.{◌≡◌, ℕ, zero, suc, ◌+◌, ◌<◌, false, List, [], length, map, replicate}
+use Rattle.std.proofs.Common.{Option, Some, None, sym, ◌∙◌, subst, arith}
 use Rattle.std.specs.List.{All}
 use Rattle.std.specs.Option.{is_some}
 use Rattle.std.proofs.lemmas.List.{length-replicate}
@@ -38,17 +39,25 @@ present_is history = record {
     exists tape (suc n) (suc p) = exists tape n p
 
 -- what the links hold
-pub present_world : (history : List Process) (queues : List (List (List Item))) → IsFitFifo history → AreMarkersReceived history → AreQueues history queues
-    → ((p q : ℕ) → p < length history → q < length history → between queues p q ≡ map (λ m. Message m) (in_transit_between history (replicate (length history) Now) p q))
+pub present_world : (history : List Process) (queues : List (List (List Item))) → IsFitFifo history
+    → AreMarkersReceived history → AreQueues history queues
+    → ((p q : ℕ) → p < length history → q < length history → between queues p q
+    ≡ map (λ m. Message m) (in_transit_between history (replicate (length history) Now) p q))
     → IsWorld Fifo history queues
 present_world history queues fit received queued put = record {
   queued = queued;
-  linked = record { fit = fit; links = λ p q p_within q_within apart. put p q p_within q_within ∙ sym (idle_link history p q fit received p_within q_within apart) };
+  linked = record {
+    fit = fit;
+    links = λ p q p_within q_within apart. put p q p_within q_within ∙
+        sym (idle_link history p q fit received p_within q_within apart);
+  };
   only = tt;
 }
 
 -- no round is open
-pub present_rounds : (history : List Process) (last : ℕ) (rounds : List ListedRound) → IsIdle history last → All (IsSnapshotOf history) rounds → AreNumbered (last + 1) rounds → AreRounds Fifo history last None rounds
+pub present_rounds : (history : List Process) (last : ℕ) (rounds : List ListedRound)
+    → IsIdle history last → All (IsSnapshotOf history) rounds → AreNumbered (last + 1) rounds
+    → AreRounds Fifo history last None rounds
 present_rounds history last rounds idle snapshots numbered = record {
   numbers = idle.numbers;
   opening = idle_completed history last idle;
@@ -58,15 +67,21 @@ present_rounds history last rounds idle snapshots numbered = record {
 }
 
 -- a world in order of which no round is open is idle
-pub shut_idle : (mode : Mode) (history : List Process) (last : ℕ) (running : Option OpenView) (queues : List (List (List Item))) (rounds : List ListedRound) → mode ≡ Fifo → IsWorld mode history queues
+pub shut_idle : (mode : Mode) (history : List Process) (last : ℕ) (running : Option OpenView)
+    (queues : List (List (List Item))) (rounds : List ListedRound) → mode ≡ Fifo
+    → IsWorld mode history queues
     → AreRounds mode history last running rounds → is_some running ≡ false → IsIdle history last
-shut_idle Fifo history last None queues rounds is world are shut = completed_idle_history history last world.linked.fit are.numbers are.opening
+shut_idle Fifo history last None queues rounds is world are shut =
+    completed_idle_history history last world.linked.fit are.numbers are.opening
 shut_idle Fifo history last (Some round) queues rounds is world are shut = absurd (cc)
 shut_idle Unordered history last running queues rounds is world are shut = absurd (cc)
 
 -- empty queues
-pub empty_queues : (history : List Process) (n : ℕ) → n ≡ length history → AreQueues history (replicate n (replicate n []))
+pub empty_queues : (history : List Process) (n : ℕ) → n ≡ length history
+    → AreQueues history (replicate n (replicate n []))
 empty_queues history n size = record {
-  shape = subst (λ (v : ℕ). IsTable {A = Item} v (replicate n (replicate n []))) size (IsTable-none n);
-  messages = λ p q. subst (λ (xs : List Item). All (IsItemOf p) xs) (sym (between-none {A = Item} n p q)) (All-nil (IsItemOf p));
+  shape =
+      subst (λ (v : ℕ). IsTable {A = Item} v (replicate n (replicate n []))) size (IsTable-none n);
+  messages = λ p q. subst (λ (xs : List Item). All (IsItemOf p) xs)
+      (sym (between-none {A = Item} n p q)) (All-nil (IsItemOf p));
 }

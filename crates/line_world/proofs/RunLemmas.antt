@@ -1,5 +1,6 @@
 -- A run grows by one step.
-use Rattle.std.proofs.Common.{◌≡◌, ℕ, ◌≤◌, List, [], ◌∷◌, ◌++◌, length, take, get_or, ◌+◌, ◌<◌, refl, sym, ap, ◌∙◌, subst, arith}
+use Rattle.std.proofs.Common.{◌≡◌, ℕ, ◌≤◌, List, [], ◌∷◌, ◌++◌, length, take, get_or, ◌+◌, ◌<◌}
+use Rattle.std.proofs.Common.{refl, sym, ap, ◌∙◌, subst, arith}
 use Rattle.std.proofs.lemmas.List.{take_more, length_push}
 use Rattle.line_world.specs.declared.replies.Answer.{Answer}
 use Rattle.line_steps.specs.declared.steps.Step.{Step}
@@ -7,26 +8,37 @@ use Rattle.line_world.specs.Machine.{Machine}
 use Rattle.line_world.specs.Runs.{Takes, Run}
 
 -- the first `index` steps were taken, and there is room for the answers of all
-pub record IsRunTo (old : Machine) (steps : List Step) (index : ℕ) (answers : List Answer) (capacity : ℕ) (new : Machine) : Type 0 where
+pub record IsRunTo (old : Machine) (steps : List Step) (index : ℕ) (answers : List Answer)
+    (capacity : ℕ) (new : Machine) : Type 0 where
   pub run : Run old (take index steps) answers new
   pub count : length answers ≡ index
   pub room : length steps ≤ capacity
 
-pub Run-push : (steps : List Step) (step : Step) (answers : List Answer) (answer : Answer) (old mid new : Machine) → Run old steps answers mid → Takes mid step answer new
+pub Run-push : (steps : List Step) (step : Step) (answers : List Answer) (answer : Answer)
+    (old mid new : Machine) → Run old steps answers mid → Takes mid step answer new
     → Run old (steps ++ step ∷ []) (answers ++ answer ∷ []) new
-Run-push [] step [] answer old mid new run takes = (new, subst (λ (m : Machine). Takes m step answer new) run takes, refl)
+Run-push [] step [] answer old mid new run takes =
+    (new, subst (λ (m : Machine). Takes m step answer new) run takes, refl)
 Run-push [] step (first ∷ answers) answer old mid new run takes = absurd run
 Run-push (first ∷ steps) step [] answer old mid new run takes = absurd run
-Run-push (first ∷ steps) step (one ∷ answers) answer old mid new (next, took, run) takes = (next, took, Run-push steps step answers answer next mid new run takes)
+Run-push (first ∷ steps) step (one ∷ answers) answer old mid new (next, took, run) takes =
+    (next, took, Run-push steps step answers answer next mid new run takes)
 
 -- one step more, with its answer
-pub IsRunTo-push : (old : Machine) (steps : List Step) (index : ℕ) (answers : List Answer) (capacity : ℕ) (mid : Machine) (step : Step) (answer : Answer) (new : Machine) (more : List Answer) (room : ℕ)
-    → IsRunTo old steps index answers capacity mid → index < length steps → step ≡ get_or steps index step → Takes mid step answer new → more ≡ answers ++ answer ∷ [] → capacity ≤ room
+pub IsRunTo-push : (old : Machine) (steps : List Step) (index : ℕ) (answers : List Answer)
+    (capacity : ℕ) (mid : Machine) (step : Step) (answer : Answer) (new : Machine)
+    (more : List Answer) (room : ℕ)
+    → IsRunTo old steps index answers capacity mid → index < length steps → step ≡ get_or steps
+    index step → Takes mid step answer new → more ≡ answers ++ answer ∷ [] → capacity ≤ room
     → IsRunTo old steps (index + 1) more room new
-IsRunTo-push old steps index answers capacity mid step answer new more room so_far within at takes grown wide = record {
-  run = subst (λ (xs : List Answer). Run old (take (index + 1) steps) xs new) (sym grown)
-      (subst (λ (xs : List Step). Run old xs (answers ++ answer ∷ []) new) (sym (take_more steps index step within ∙ ap (λ (s : Step). take index steps ++ s ∷ []) (sym at)))
-      (Run-push (take index steps) step answers answer old mid new so_far.run takes));
-  count = ap (λ (xs : List Answer). length xs) grown ∙ length_push answers answer ∙ ap (λ (k : ℕ). k + 1) so_far.count;
-  room = omega (arith, so_far.room, wide);
-}
+IsRunTo-push old steps index answers capacity mid step answer new more room so_far within at takes
+    grown wide =
+    record {
+      run = subst (λ (xs : List Answer). Run old (take (index + 1) steps) xs new) (sym grown)
+          (subst (λ (xs : List Step). Run old xs (answers ++ answer ∷ []) new) (sym (take_more steps
+          index step within ∙ ap (λ (s : Step). take index steps ++ s ∷ []) (sym at)))
+          (Run-push (take index steps) step answers answer old mid new so_far.run takes));
+      count = ap (λ (xs : List Answer). length xs) grown ∙ length_push answers answer ∙ ap
+          (λ (k : ℕ). k + 1) so_far.count;
+      room = omega (arith, so_far.room, wide);
+    }

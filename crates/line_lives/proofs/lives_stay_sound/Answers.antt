@@ -6,4 +6,5 @@ pub returns-clause-sound : goal.returns-clause-sound
 returns-clause-sound c floor machine may = kept_sound floor machine may
 
 pub returns-clause-snapshots : goal.returns-clause-snapshots
-returns-clause-snapshots c floor machine is snapshots = snapshots_left floor machine.history is.fit is.is machine.rounds snapshots
+returns-clause-snapshots c floor machine is snapshots =
+    snapshots_left floor machine.history is.fit is.is machine.rounds snapshots

@@ -10,16 +10,20 @@ loop-i-init g c = out_none _ _ _ _
 pub loop-i-preserved : goal.loop-i-preserved
 loop-i-preserved g c =
     let lt : c.loop-i.i < length c.args.messages.now = omega arith in
-    let next = item_left (channel_record c.args.floor.now c.args.round c.args.link.now.0 c.args.link.now.1) c.args.messages.now c.loop-i.i _ lt c.index-messages-i.is in
+    let next = item_left (channel_record c.args.floor.now c.args.round c.args.link.now.0
+    c.args.link.now.1) c.args.messages.now c.loop-i.i _ lt c.index-messages-i.is in
     out_more _ _ next c.loop-i.invariant c.in_ok-put_channel_message.ensures
 
 pub returns-in_err-put_channel_message : goal.returns-in_err-put_channel_message
 returns-in_err-put_channel_message g c =
     let lt : c.loop-i.i < length c.args.messages.now = omega arith in
-    let next = item_left (channel_record c.args.floor.now c.args.round c.args.link.now.0 c.args.link.now.1) c.args.messages.now c.loop-i.i _ lt c.index-messages-i.is in
-    out_front _ _ _ _ _ next c.loop-i.invariant c.in_err-put_channel_message.ensures c.from_residual.ensures.1
+    let next = item_left (channel_record c.args.floor.now c.args.round c.args.link.now.0
+    c.args.link.now.1) c.args.messages.now c.loop-i.i _ lt c.index-messages-i.is in
+    out_front _ _ _ _ _ next c.loop-i.invariant c.in_err-put_channel_message.ensures
+    c.from_residual.ensures.1
 
 pub returns : goal.returns
 returns g c =
     let le : length c.args.messages.now ≤ c.loop-i.i = omega arith in
-    out_all tt (no_item_left (channel_record c.args.floor.now c.args.round c.args.link.now.0 c.args.link.now.1) c.args.messages.now c.loop-i.i le) c.loop-i.invariant
+    out_all tt (no_item_left (channel_record c.args.floor.now c.args.round c.args.link.now.0
+    c.args.link.now.1) c.args.messages.now c.loop-i.i le) c.loop-i.invariant

@@ -6,4 +6,7 @@ use Rattle.line_fields.specs.Texts.{records_text}
 use Rattle.line_answers.proofs.listings.put_messages.Given as goal
 
 abbrev pub invariant-loop-i : goal.invariant-loop-i
-invariant-loop-i g l = IsOut (g.K.Sink.taken l.fn.sink) (g.K.Sink.taken l.sink) (g.K.Sink.faults l.fn.sink) (g.K.Sink.faults l.sink) l.fn.writer l.writer (records_text (map (channel_record l.floor l.round l.link.0 l.link.1) l.messages)) (records_text (map (channel_record l.floor l.round l.link.0 l.link.1) (drop l.i l.messages)))
+invariant-loop-i g l = IsOut (g.K.Sink.taken l.fn.sink) (g.K.Sink.taken l.sink)
+    (g.K.Sink.faults l.fn.sink) (g.K.Sink.faults l.sink) l.fn.writer l.writer
+    (records_text (map (channel_record l.floor l.round l.link.0 l.link.1) l.messages))
+    (records_text (map (channel_record l.floor l.round l.link.0 l.link.1) (drop l.i l.messages)))

@@ -10,5 +10,8 @@ use Rattle.line_answers.proofs.rounds.put_round.Given as goal
 
 abbrev pub invariant-loop-value : goal.invariant-loop-value
 invariant-loop-value g l =
-    IsOut (g.K.Sink.taken l.fn.sink) (g.K.Sink.taken l.sink) (g.K.Sink.faults l.fn.sink) (g.K.Sink.faults l.sink) l.fn.writer l.writer (record_text (round_record l.floor l.n l.round))
-    (flat_map (λ p. 44 ∷ decimal (check_in l.round p + lost_checks l.floor p)) (drop l.value (range_with_len 0 l.n)) ++ 10 ∷ [])
+    IsOut (g.K.Sink.taken l.fn.sink) (g.K.Sink.taken l.sink) (g.K.Sink.faults l.fn.sink)
+    (g.K.Sink.faults l.sink) l.fn.writer l.writer
+    (record_text (round_record l.floor l.n l.round))
+    (flat_map (λ p. 44 ∷ decimal (check_in l.round p + lost_checks l.floor p))
+    (drop l.value (range_with_len 0 l.n)) ++ 10 ∷ [])

@@ -10,17 +10,23 @@ use Rattle.line_answers.proofs.views.plan_to_recover.Goals as goal
 pub returns-then-not-has_further-clause-refused : goal.returns-then-not-has_further-clause-refused
 returns-then-not-has_further-clause-refused c = λ other.
     let known : has_stranger c.args.world.now c.args.failed.now ≡ false =
-    false_from_ne_true (has_stranger c.args.world.now c.args.failed.now) (λ t. let wrong = c.in_ok-plan.ensures.stranger.1 t in absurd (cc)) in
-    spent_refused c.args.world.now c.args.failed.now c.in_ok-plan.plan.value known c.in_ok-plan.ensures.plan
+    false_from_ne_true (has_stranger c.args.world.now c.args.failed.now)
+    (λ t. let wrong = c.in_ok-plan.ensures.stranger.1 t in absurd (cc)) in
+    spent_refused c.args.world.now c.args.failed.now c.in_ok-plan.plan.value known
+    c.in_ok-plan.ensures.plan
     (λ further. both_ways c.has_further.result c.if-not-has_further.true
     (c.has_further.ensures.1
     (subst (λ (p : Plan). HaveFurther c.history.result.now.processes p.line) (sym c.deref.ensures)
-    (subst (λ (h : List Process). HaveFurther h c.in_ok-plan.plan.value.line) (sym c.history.ensures.value) further))))
+    (subst (λ (h : List Process). HaveFurther h c.in_ok-plan.plan.value.line)
+    (sym c.history.ensures.value) further))))
 
 pub returns-clause-plan : goal.returns-clause-plan
 returns-clause-plan c = record {
-  there = false_from_ne_true (has_stranger c.args.world.now c.args.failed.now) (λ t. let wrong = c.in_ok-plan.ensures.stranger.1 t in absurd (cc));
+  there = false_from_ne_true (has_stranger c.args.world.now c.args.failed.now)
+      (λ t. let wrong = c.in_ok-plan.ensures.stranger.1 t in absurd (cc));
   planned = c.in_ok-plan.ensures.plan;
-  further = subst (λ (h : List Process). HaveFurther h c.in_ok-plan.plan.value.line) c.history.ensures.value
-      (subst (λ (p : Plan). HaveFurther c.history.result.now.processes p.line) c.deref.ensures (c.has_further.ensures.0 c.if-not-has_further.false));
+  further = subst
+      (λ (h : List Process). HaveFurther h c.in_ok-plan.plan.value.line) c.history.ensures.value
+      (subst (λ (p : Plan). HaveFurther c.history.result.now.processes p.line) c.deref.ensures
+      (c.has_further.ensures.0 c.if-not-has_further.false));
 }

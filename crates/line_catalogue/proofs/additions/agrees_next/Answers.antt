@@ -14,9 +14,14 @@ returns-in-Send c =
     let event : Event = Send c.in-Send.to c.in-Send.inc c.in-Send.body in (
       λ h.
           let now : IsSentAsNow history c.args.p event = eqb-true _ _ h ∙ c.incarnation.ensures in
-          subst (AgreesNext history c.args.p) (sym c.in-Send.is) (record { agrees = Agrees-more history c.args.p event c.requires.process now tt c.requires.agrees; present = now }),
+          subst (AgreesNext history c.args.p) (sym c.in-Send.is) (record {
+            agrees = Agrees-more
+                history c.args.p event c.requires.process now tt c.requires.agrees;
+            present = now;
+          }),
       λ next.
-          let now : IsSentAsNow history c.args.p event = subst (IsSentAsNow history c.args.p) c.in-Send.is next.present in
+          let now : IsSentAsNow history c.args.p event = subst
+          (IsSentAsNow history c.args.p) c.in-Send.is next.present in
           eq-eqb _ _ (now ∙ sym c.incarnation.ensures),
     )
 
@@ -24,20 +29,41 @@ pub returns-in-Recv : goal.returns-in-Recv
 returns-in-Recv c =
     let history : List Process = c.args.history.now.processes in
     let event : Event = Recv c.in-Recv.message in (
-      λ h. subst (AgreesNext history c.args.p) (sym c.in-Recv.is) (record { agrees = Agrees-more history c.args.p event c.requires.process tt (c.name_agrees.ensures.0 h) c.requires.agrees; present = tt }),
+      λ h. subst (AgreesNext history c.args.p) (sym c.in-Recv.is)
+          (record {
+            agrees = Agrees-more history c.args.p event c.requires.process tt
+                (c.name_agrees.ensures.0 h) c.requires.agrees;
+            present = tt;
+          }),
       λ next.
-          let all : AgreesNext history c.args.p event = subst (AgreesNext history c.args.p) c.in-Recv.is next in
-          c.name_agrees.ensures.1 (NameAgrees-before history c.args.p event c.requires.process refl c.in-Recv.message (Agrees-last history c.args.p event c.requires.process all.agrees)),
+          let all : AgreesNext history c.args.p event = subst
+          (AgreesNext history c.args.p) c.in-Recv.is next in
+          c.name_agrees.ensures.1 (NameAgrees-before history c.args.p event c.requires.process refl
+          c.in-Recv.message (Agrees-last history c.args.p event c.requires.process all.agrees)),
     )
 
 pub returns-in-Check : goal.returns-in-Check
 returns-in-Check c =
     let history : List Process = c.args.history.now.processes in
-    let event : Event = Check c.in-Check.state c.in-Check.round in
-    (λ h. subst (AgreesNext history c.args.p) (sym c.in-Check.is) (record { agrees = Agrees-more history c.args.p event c.requires.process tt tt c.requires.agrees; present = tt }), λ next. refl)
+    let event : Event = Check c.in-Check.state c.in-Check.round in (
+      λ h. subst (AgreesNext history c.args.p) (sym c.in-Check.is)
+          (record {
+            agrees = Agrees-more history c.args.p event c.requires.process tt tt
+                c.requires.agrees;
+            present = tt;
+          }),
+      λ next. refl,
+    )
 
 pub returns-in-Mark : goal.returns-in-Mark
 returns-in-Mark c =
     let history : List Process = c.args.history.now.processes in
-    let event : Event = Mark c.in-Mark.from c.in-Mark.round in
-    (λ h. subst (AgreesNext history c.args.p) (sym c.in-Mark.is) (record { agrees = Agrees-more history c.args.p event c.requires.process tt tt c.requires.agrees; present = tt }), λ next. refl)
+    let event : Event = Mark c.in-Mark.from c.in-Mark.round in (
+      λ h. subst (AgreesNext history c.args.p) (sym c.in-Mark.is)
+          (record {
+            agrees = Agrees-more history c.args.p event c.requires.process tt tt
+                c.requires.agrees;
+            present = tt;
+          }),
+      λ next. refl,
+    )

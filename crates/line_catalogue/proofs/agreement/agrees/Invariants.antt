@@ -5,4 +5,5 @@ use Rattle.line_catalogue.specs.Agreement.{EventAgrees}
 use Rattle.line_catalogue.proofs.agreement.agrees.Given as goal
 
 abbrev pub invariant-loop-q : goal.invariant-loop-q
-invariant-loop-q l = (p : ℕ) → p < l.q → All (EventAgrees l.history.processes) (tape_at l.history.processes p)
+invariant-loop-q l =
+    (p : ℕ) → p < l.q → All (EventAgrees l.history.processes) (tape_at l.history.processes p)

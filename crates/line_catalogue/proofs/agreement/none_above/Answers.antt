@@ -16,7 +16,8 @@ returns-in-Some c =
     let latest : ℕ = c.in-Some.latest in
     let at : c.get.result ≡ p = c.get.ensures.value in
     let up_to : All (λ check. check ≤ latest) (damaged_at marks p) =
-    subst (λ (q : ℕ). All (λ check. check ≤ latest) (damaged_at marks q)) at c.in-Some.ensures.latest in
+    subst (λ (q : ℕ). All (λ check. check ≤ latest) (damaged_at marks q)) at
+    c.in-Some.ensures.latest in
     let marked : IsTrue (is_damaged marks p latest) =
     subst (λ (q : ℕ). IsTrue (is_damaged marks q latest)) at c.in-Some.ensures.marked in (
       λ h k d l. omega (arith, up_to k d l, leb-true latest last h),

@@ -30,5 +30,9 @@ pub returns : goal.returns
 returns c =
     let events : List Event = c.front-events.result in
     let tape : List Event = tape_at c.args.history.now.processes c.args.p in
-    let whole : events ≡ tape = c.front-events.ensures ∙ ap (λ (t : List Event). front t Now) c.tape.ensures.events ∙ take_all (length tape) tape (omega arith) in
-    (λ h. subst (All (EventAgrees c.args.history.now.processes)) (take_all c.loop-i.i events (omega arith) ∙ whole) c.loop-i.invariant, λ h. refl)
+    let whole : events ≡ tape = c.front-events.ensures ∙ ap (λ (t : List Event). front t Now)
+    c.tape.ensures.events ∙ take_all (length tape) tape (omega arith) in (
+      λ h. subst (All (EventAgrees c.args.history.now.processes))
+          (take_all c.loop-i.i events (omega arith) ∙ whole) c.loop-i.invariant,
+      λ h. refl,
+    )

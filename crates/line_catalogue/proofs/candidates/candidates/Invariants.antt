@@ -6,5 +6,6 @@ use Rattle.line_catalogue.proofs.candidates.candidates.Given as goal
 abbrev pub invariant-loop-receiver : goal.invariant-loop-receiver
 invariant-loop-receiver l = record {
   count : length l.rows.items ≡ length l.history.processes;
-  behind : (q : ℕ) → q < l.receiver → AreIn (names_received (events_between l.history.processes l.line q (place_at l.places q))) l.ends l.rows.items;
+  behind : (q : ℕ) → q < l.receiver → AreIn (names_received
+      (events_between l.history.processes l.line q (place_at l.places q))) l.ends l.rows.items;
 }

@@ -11,6 +11,7 @@ invariant-loop-q l = record {
   len : vec_len l.ends ≡ l.q;
   room : l.n ≤ vec_capacity l.ends;
   started : (p : ℕ) → start_at l.ends.items p ≤ start_at l.starts p;
-  since : (p number : ℕ) → start_at l.ends.items p ≤ number → p < l.q → number < sends (events_before l.history.processes l.line p) → start_at l.starts p ≤ number;
+  since : (p number : ℕ) → start_at l.ends.items p ≤ number → p < l.q
+      → number < sends (events_before l.history.processes l.line p) → start_at l.starts p ≤ number;
   before : (p : ℕ) → start_at l.ends.items p ≤ sends (events_before l.history.processes l.line p);
 }

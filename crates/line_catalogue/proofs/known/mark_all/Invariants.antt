@@ -10,5 +10,6 @@ abbrev pub invariant-loop-q : goal.invariant-loop-q
 invariant-loop-q l = record {
   rows : AreMarkRows l.history.processes l.starts.items l.marks.items;
   known : AreKnown l.history.processes l.line l.bases.items l.starts.items l.marks.items;
-  noted : (q : ℕ) → q < l.q → AreReceiptsMarkedSince l.history.processes l.line l.bases.items l.starts.items l.marks.items q (place_at l.places q);
+  noted : (q : ℕ) → q < l.q → AreReceiptsMarkedSince l.history.processes l.line l.bases.items
+      l.starts.items l.marks.items q (place_at l.places q);
 }

@@ -9,4 +9,7 @@ use Rattle.line_catalogue.proofs.numbers.add_receipt.Goals as goal
 
 pub returns-in-Recv-clause-added : goal.returns-in-Recv-clause-added
 returns-in-Recv-clause-added c =
-    subst (λ (e : Event). OnOk c.add_name.result ((names : List MsgName) → AreIn names c.args.ends.now c.args.rows.now.items → AreIn (names ++ names_received (e ∷ [])) c.args.ends.now c.add_name.new.rows.items)) (sym (ap event_of_ref c.in-Recv.is)) c.add_name.ensures.added
+    subst (λ (e : Event). OnOk c.add_name.result
+    ((names : List MsgName) → AreIn names c.args.ends.now c.args.rows.now.items
+    → AreIn (names ++ names_received (e ∷ [])) c.args.ends.now c.add_name.new.rows.items))
+    (sym (ap event_of_ref c.in-Recv.is)) c.add_name.ensures.added

@@ -8,8 +8,10 @@ loop-p-preserved c =
     let none : List ℕ = [] in
     let rows : List (List ℕ) = c.loop-p.rows.items in
     record {
-      made = c.push_reserved.ensures.items ∙ ap (λ (row : List ℕ). rows ++ row ∷ []) c.in_ok-row.ensures
-          ∙ ap (λ (xs : List (List ℕ)). xs ++ none ∷ []) c.loop-p.invariant.made ∙ replicate-append-replicate c.loop-p._p 1 none;
+      made = c.push_reserved.ensures.items ∙ ap
+          (λ (row : List ℕ). rows ++ row ∷ []) c.in_ok-row.ensures
+          ∙ ap (λ (xs : List (List ℕ)). xs ++ none ∷ []) c.loop-p.invariant.made ∙
+          replicate-append-replicate c.loop-p._p 1 none;
       len = omega (arith, c.push_reserved.ensures.len, c.loop-p.invariant.len);
       room = omega (arith, c.push_reserved.ensures.capacity, c.loop-p.invariant.room);
     }

@@ -9,9 +9,14 @@ invariant-loop-c l = record {
   count : length l.rows.items ≡ length l.fn.rows.items;
   capacity : vec_capacity l.rows ≡ vec_capacity l.fn.rows;
   within : l.c ≤ length l.fn.rows.items;
-  placed : (k : ℕ) (d : KeptRow) → l.c ≤ k → k < length l.fn.rows.items → (get_or l.rows.items k d).place ≡ place l.tape.events (AtCheck k);
-  left : (k : ℕ) (d : KeptRow) → k < l.c → (get_or l.rows.items k d).place ≡ (get_or l.fn.rows.items k d).place;
-  sends_same : (k : ℕ) (d : KeptRow) → (get_or l.rows.items k d).sends ≡ (get_or l.fn.rows.items k d).sends;
-  damaged_same : (k : ℕ) (d : KeptRow) → (get_or l.rows.items k d).damaged ≡ (get_or l.fn.rows.items k d).damaged;
-  start_same : (k : ℕ) (d : KeptRow) → (get_or l.rows.items k d).start ≡ (get_or l.fn.rows.items k d).start;
+  placed : (k : ℕ) (d : KeptRow) → l.c ≤ k → k < length l.fn.rows.items
+      → (get_or l.rows.items k d).place ≡ place l.tape.events (AtCheck k);
+  left : (k : ℕ) (d : KeptRow) → k < l.c
+      → (get_or l.rows.items k d).place ≡ (get_or l.fn.rows.items k d).place;
+  sends_same : (k : ℕ) (d : KeptRow)
+      → (get_or l.rows.items k d).sends ≡ (get_or l.fn.rows.items k d).sends;
+  damaged_same : (k : ℕ) (d : KeptRow)
+      → (get_or l.rows.items k d).damaged ≡ (get_or l.fn.rows.items k d).damaged;
+  start_same : (k : ℕ) (d : KeptRow)
+      → (get_or l.rows.items k d).start ≡ (get_or l.fn.rows.items k d).start;
 }

@@ -1,12 +1,16 @@
 -- One number of the row more.
-use Rattle.std.proofs.Common.{◌≡◌, ◌<◌, ◌≤◌, ◌+◌, ◌++◌, ℕ, List, get_or, sym, ap, ◌∙◌, append-nil, arith, inl, inr, ◌⊎◌}
+use Rattle.std.proofs.Common.{◌≡◌, ◌<◌, ◌≤◌, ◌+◌, ◌++◌, ℕ, List, get_or, sym, ap, ◌∙◌, append-nil}
+use Rattle.std.proofs.Common.{arith, inl, inr, ◌⊎◌}
 use Rattle.std.proofs.lemmas.Bool.{cases_lt}
 use Rattle.line_names.specs.declared.choices.Choice.{Choice}
 use Rattle.line_names.specs.declared.messages.MsgName.{MsgName}
 use Rattle.line_tape.specs.History.{Process}
 use Rattle.line_catalogue.specs.Left.{open_first}
 use Rattle.line_catalogue.proofs.OpenLemmas.{gap-to, none_between}
-use Rattle.line_catalogue.proofs.senders.add_old.Goals.{then-next-number+then-number-end+in_ok-add_if_open, else-next-number, else-next-number-via-then-next-number+else-number-end, else-next-number-via-else-next-number}
+use Rattle.line_catalogue.proofs.senders.add_old.Goals.{then-next-number+then-number-end+in_ok-add_if_open}
+use Rattle.line_catalogue.proofs.senders.add_old.Goals.{else-next-number}
+use Rattle.line_catalogue.proofs.senders.add_old.Goals.{else-next-number-via-then-next-number+else-number-end}
+use Rattle.line_catalogue.proofs.senders.add_old.Goals.{else-next-number-via-else-next-number}
 use Rattle.line_catalogue.proofs.senders.add_old.Goals as goal
 
 pub loop-number-init : goal.loop-number-init
@@ -31,10 +35,16 @@ loop-number-preserved c =
           let after : c.if-next-number.next ≡ number + 1 = w.next-is in
           let up : next ≤ number = w.if-next-number.true in
           let below : number < c.args.end = w.if-number-end.true in
-          let none : open_first history line p next ≡ open_first history line p number = gap-to history line p c.args.end row c.requires.end c.requires.held next number up (omega (arith, below)) (none_between row c.args.end i next number c.requires.sorted c.loop-number.invariant.passed (omega (arith, below)) (λ _. omega arith)) in
+          let none : open_first history line p next
+          ≡ open_first history line p number = gap-to history line p c.args.end row
+          c.requires.end c.requires.held next number up (omega (arith, below))
+          (none_between row c.args.end i next number c.requires.sorted
+          c.loop-number.invariant.passed (omega (arith, below)) (λ _. omega arith)) in
           record {
             low = omega (arith, after, below);
-            found = ap (λ v. v.items) w.messages-is ∙ w.in_ok-add_if_open.ensures old (c.loop-number.invariant.found ∙ ap (λ (xs : List MsgName). old ++ xs) none) ∙ ap (λ (k : ℕ). old ++ open_first history line p k) (sym after);
+            found = ap (λ v. v.items) w.messages-is ∙ w.in_ok-add_if_open.ensures old
+                (c.loop-number.invariant.found ∙ ap (λ (xs : List MsgName). old ++ xs) none) ∙ ap
+                (λ (k : ℕ). old ++ open_first history line p k) (sym after);
             passed = λ j l. elim (cases_lt j i) [
               | inl earlier ↦ elim (c.loop-number.invariant.passed j earlier) [
                 | inl a ↦ inl (omega (arith, a, up, after))
@@ -53,7 +63,8 @@ loop-number-preserved c =
           ] in
           record {
             low = omega (arith, after, c.loop-number.invariant.low);
-            found = ap (λ v. v.items) w.messages-is ∙ c.loop-number.invariant.found ∙ ap (λ (k : ℕ). old ++ open_first history line p k) (sym after);
+            found = ap (λ v. v.items) w.messages-is ∙ c.loop-number.invariant.found ∙ ap
+                (λ (k : ℕ). old ++ open_first history line p k) (sym after);
             passed = λ j l. elim (cases_lt j i) [
               | inl earlier ↦ elim (c.loop-number.invariant.passed j earlier) [
                 | inl a ↦ inl (omega (arith, a, after))
@@ -78,5 +89,9 @@ returns c =
     let i : ℕ = c.loop-number.number-index in
     let next : ℕ = c.loop-number.next in
     let end : ℕ = c.args.end in
-    let none : open_first history line p next ≡ open_first history line p end = gap-to history line p end row c.requires.end c.requires.held next end c.loop-number.invariant.low (omega arith) (none_between row end i next end c.requires.sorted c.loop-number.invariant.passed (omega arith) (λ l. absurd (omega (arith, l, c.loop-number-test.false)))) in
+    let none : open_first history line p next
+    ≡ open_first history line p end = gap-to history line p end row c.requires.end
+    c.requires.held next end c.loop-number.invariant.low (omega arith)
+    (none_between row end i next end c.requires.sorted c.loop-number.invariant.passed
+    (omega arith) (λ l. absurd (omega (arith, l, c.loop-number-test.false)))) in
     c.loop-number.invariant.found ∙ ap (λ (xs : List MsgName). c.args.messages.now.items ++ xs) none

@@ -11,5 +11,9 @@ use Rattle.line_catalogue.proofs.senders.is_received.Goals as goal
 pub returns-then-get-n : goal.returns-then-get-n
 returns-then-get-n c =
     let events : List Event = front c.tape.result.now.events c.at.result in
-    let before : events ≡ events_before c.args.history.now.processes c.args.line.now c.args.q = ap (λ (t : List Event). front t c.at.result) c.tape.ensures.events ∙ ap (front (tape_at c.args.history.now.processes c.args.q)) c.at.ensures in
-    has_received-is events c.args.message.now c.received_before.result c.received_before.ensures ∙ ap (λ (es : List Event). has_received es c.args.message.now) before
+    let before : events
+    ≡ events_before c.args.history.now.processes c.args.line.now c.args.q = ap
+    (λ (t : List Event). front t c.at.result) c.tape.ensures.events ∙ ap
+    (front (tape_at c.args.history.now.processes c.args.q)) c.at.ensures in
+    has_received-is events c.args.message.now c.received_before.result c.received_before.ensures ∙
+    ap (λ (es : List Event). has_received es c.args.message.now) before

@@ -12,6 +12,7 @@ invariant-loop-p l = record {
   len : vec_len l.moved ≡ l.p;
   room : l.n ≤ vec_capacity l.moved;
   before : (p : ℕ) → start_at l.moved.items p ≤ sends (events_before l.history.processes l.line p);
-  held : (p : ℕ) → p < l.p → HaveLeft l.history.processes l.line p (start_at l.moved.items p) l.messages.items;
+  held : (p : ℕ) → p < l.p
+      → HaveLeft l.history.processes l.line p (start_at l.moved.items p) l.messages.items;
   below : AreOpenBelow l.history.processes l.line l.messages.items l.p 0;
 }

@@ -6,4 +6,5 @@ use Rattle.line_vectors.specs.Reach.{reach_from}
 use Rattle.line_catalogue.proofs.strangers.has_heard.Given as goal
 
 abbrev pub invariant-loop-s : goal.invariant-loop-s
-invariant-loop-s l = (p : ℕ) → p < l.s → 0 < reach_from (tape_at l.catalogue.processes l.fn.q) p → sends (events_before l.catalogue.processes l.line p) ≡ 0
+invariant-loop-s l = (p : ℕ) → p < l.s → 0 < reach_from (tape_at l.catalogue.processes l.fn.q) p
+    → sends (events_before l.catalogue.processes l.line p) ≡ 0

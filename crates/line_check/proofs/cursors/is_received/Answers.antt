@@ -9,5 +9,10 @@ use Rattle.line_check.proofs.cursors.is_received.Goals as goal
 
 pub returns : goal.returns
 returns c =
-    let before : front c.tape.result.now.events c.at.result ≡ events_before c.args.history.now.processes c.args.line.now c.args.q = cc (c.tape.ensures.events, c.at.ensures) in
-    has_received-is (front c.tape.result.now.events c.at.result) c.args.message.now c.received_before.result c.received_before.ensures ∙ ap (λ (es : List Event). has_received es c.args.message.now) before
+    let before : front c.tape.result.now.events c.at.result
+    ≡ events_before c.args.history.now.processes c.args.line.now c.args.q =
+    cc (c.tape.ensures.events, c.at.ensures) in
+    has_received-is
+    (front c.tape.result.now.events c.at.result) c.args.message.now c.received_before.result
+    c.received_before.ensures ∙ ap
+    (λ (es : List Event). has_received es c.args.message.now) before

@@ -8,8 +8,10 @@ use Rattle.line_check.proofs.cursors.next_due.Given as goal
 abbrev pub invariant-processes : goal.invariant-processes
 invariant-processes l = record {
   number : (l.walk.number ≤ l.walk.place);
-  counted : (IfSome l.received (λ _. l.walk.number ≡ sends (take l.walk.place (events_before l.history.processes l.line l.walk.p))));
-  left : (still_due l.history.processes l.line l.fn.cursor ≡ still_due l.history.processes l.line l.walk);
+  counted : (IfSome l.received (λ _. l.walk.number
+      ≡ sends (take l.walk.place (events_before l.history.processes l.line l.walk.p))));
+  left : (still_due l.history.processes l.line l.fn.cursor
+      ≡ still_due l.history.processes l.line l.walk);
 }
 
 abbrev pub decreases-processes : goal.decreases-processes
@@ -20,7 +22,8 @@ invariant-events l = record {
   number : (l.walk.number ≤ l.walk.place);
   process : (l.walk.p ≡ l.p);
   counted : (IfSome l.received (λ _. l.walk.number ≡ sends (take l.walk.place l.events)));
-  left : (still_due l.history.processes l.line l.fn.cursor ≡ still_due l.history.processes l.line l.walk);
+  left : (still_due l.history.processes l.line l.fn.cursor
+      ≡ still_due l.history.processes l.line l.walk);
 }
 
 abbrev pub decreases-events : goal.decreases-events

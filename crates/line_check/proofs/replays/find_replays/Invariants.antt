@@ -10,11 +10,15 @@ use Rattle.line_check.proofs.replays.find_replays.Given as goal
 abbrev pub invariant-due : goal.invariant-due
 invariant-due l = record {
   number : (l.cursor.number ≤ l.cursor.place);
-  counted : (IfSome l.received (λ _. l.cursor.number ≡ sends (take l.cursor.place (events_before l.history.processes l.line l.cursor.p))));
+  counted : (IfSome l.received (λ _. l.cursor.number
+      ≡ sends (take l.cursor.place (events_before l.history.processes l.line l.cursor.p))));
   within : (l.found ≤ length l.replays);
-  among : (l.found + length (still_due l.history.processes l.line l.cursor) ≤ length (replays_due l.history.processes l.line));
-  whole : (IsTrue l.whole ↔ (l.found + length (still_due l.history.processes l.line l.cursor) ≡ length (replays_due l.history.processes l.line)));
-  leaves : ((left : List Replay) → Leaves (still_due l.history.processes l.line l.cursor) (drop l.found l.replays) left → Leaves (replays_due l.history.processes l.line) l.replays left);
+  among : (l.found + length (still_due l.history.processes l.line l.cursor) ≤ length
+      (replays_due l.history.processes l.line));
+  whole : (IsTrue l.whole ↔ (l.found + length (still_due l.history.processes l.line l.cursor)
+      ≡ length (replays_due l.history.processes l.line)));
+  leaves : ((left : List Replay) → Leaves (still_due l.history.processes l.line l.cursor) (drop
+      l.found l.replays) left → Leaves (replays_due l.history.processes l.line) l.replays left);
 }
 
 abbrev pub decreases-due : goal.decreases-due

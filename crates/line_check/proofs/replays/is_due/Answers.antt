@@ -16,11 +16,14 @@ due-preserved c =
     let due : Replay = replay_of_ref c.in-Some.due in
     let later : List Replay = still_due history line c.next_replay.new.cursor in
     let left : still_due history line c.due.cursor ≡ due ∷ later = c.in-Some.ensures.left in
-    let other : c.args.replay.now ≡ due → ⊥ = λ e. false≢true (sym c.if-is_replay.false ∙ c.is_replay.ensures.1 e) in
+    let other : c.args.replay.now ≡ due
+    → ⊥ = λ e. false≢true (sym c.if-is_replay.false ∙ c.is_replay.ensures.1 e) in
     record {
       number = c.in-Some.ensures.number;
       same = (
-        λ h. other-Contains due later c.args.replay.now other (subst (λ (xs : List Replay). Contains xs c.args.replay.now) left (c.due.invariant.same.0 h)),
-        λ h. c.due.invariant.same.1 (subst (λ (xs : List Replay). Contains xs c.args.replay.now) (sym left) (later-Contains due later c.args.replay.now h)),
+        λ h. other-Contains due later c.args.replay.now other (subst
+            (λ (xs : List Replay). Contains xs c.args.replay.now) left (c.due.invariant.same.0 h)),
+        λ h. c.due.invariant.same.1 (subst (λ (xs : List Replay). Contains xs c.args.replay.now)
+            (sym left) (later-Contains due later c.args.replay.now h)),
       );
     }

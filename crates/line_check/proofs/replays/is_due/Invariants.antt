@@ -6,7 +6,8 @@ use Rattle.line_check.proofs.replays.is_due.Given as goal
 abbrev pub invariant-due : goal.invariant-due
 invariant-due l = record {
   number : (l.cursor.number ≤ l.cursor.place);
-  same : (Contains (replays_due l.history.processes l.line) l.replay ↔ Contains (still_due l.history.processes l.line l.cursor) l.replay);
+  same : (Contains (replays_due l.history.processes l.line) l.replay
+      ↔ Contains (still_due l.history.processes l.line l.cursor) l.replay);
 }
 
 abbrev pub decreases-due : goal.decreases-due

@@ -16,17 +16,24 @@ not-both false h k = false≢true k
 
 pub returns-in-Some : goal.returns-in-Some
 returns-in-Some c =
-    let to_is : addressee c.args.history.now.processes c.args.message.now ≡ Some c.in-Some.to = sym c.addressee.ensures ∙ c.in-Some.is in
-    let iff = has_received-iff (events_before c.args.history.now.processes c.args.line.now c.in-Some.to) c.args.message.now in (
+    let to_is : addressee c.args.history.now.processes c.args.message.now
+    ≡ Some c.in-Some.to = sym c.addressee.ensures ∙ c.in-Some.is in
+    let iff = has_received-iff (events_before c.args.history.now.processes c.args.line.now
+    c.in-Some.to) c.args.message.now in (
       λ h. record {
         sent = c.is_sent_before.ensures.0 c.if-not-is_sent_before.false;
         unreceived = λ q q_is received.
             let same : q ≡ c.in-Some.to = same_Some _ _ (sym q_is ∙ to_is) in
-            let there : Contains (events_before c.args.history.now.processes c.args.line.now c.in-Some.to) (Recv c.args.message.now) = subst (λ (to : ℕ). Contains (events_before c.args.history.now.processes c.args.line.now to) (Recv c.args.message.now)) same received in
+            let there : Contains
+            (events_before c.args.history.now.processes c.args.line.now c.in-Some.to)
+            (Recv c.args.message.now) = subst
+            (λ (to : ℕ). Contains (events_before c.args.history.now.processes c.args.line.now
+            to) (Recv c.args.message.now)) same received in
             not-both c.is_received.result h (c.is_received.ensures ∙ iff.1 there);
       },
       λ transit. elim (cases_Bool c.is_received.result) [
-        | inl e ↦ absurd (transit.unreceived c.in-Some.to to_is (iff.0 (sym c.is_received.ensures ∙ e)))
+        | inl e ↦ absurd
+            (transit.unreceived c.in-Some.to to_is (iff.0 (sym c.is_received.ensures ∙ e)))
         | inr e ↦ ap not e
       ],
     )

@@ -10,15 +10,20 @@ use Rattle.line_check.proofs.shapes.are_bars_of.Goals as goal
 pub returns-then-not-is_bar_of : goal.returns-then-not-is_bar_of
 returns-then-not-is_bar_of c = (
   λ h. absurd (false≢true h),
-  λ each. absurd (false≢true (sym c.if-not-is_bar_of.true ∙ c.is_bar_of.ensures.1 (each c.loop-p.p))),
+  λ each. absurd
+      (false≢true (sym c.if-not-is_bar_of.true ∙ c.is_bar_of.ensures.1 (each c.loop-p.p))),
 )
 
 pub loop-p-preserved : goal.loop-p-preserved
 loop-p-preserved c =
     let history : List Process = c.args.history.now.processes in
-    below_more (λ (q : ℕ). (check : ℕ) → bar_at c.args.marks.now q ≡ Some check → IsCheckOf history q check) c.loop-p.p
+    below_more (λ (q : ℕ). (check : ℕ) → bar_at c.args.marks.now q ≡ Some check
+    → IsCheckOf history q check) c.loop-p.p
     c.loop-p.invariant (c.is_bar_of.ensures.0 c.if-not-is_bar_of.false)
 
 pub returns : goal.returns
-returns c =
-    (λ h. barred-checks c.args.history.now.processes c.args.marks.now (λ q within. c.loop-p.invariant q (omega arith)), λ h. refl)
+returns c = (
+  λ h. barred-checks c.args.history.now.processes c.args.marks.now
+      (λ q within. c.loop-p.invariant q (omega arith)),
+  λ h. refl,
+)

@@ -12,6 +12,8 @@ returns-in-Some c =
     let p : ℕ = c.args.p in
     let check : ℕ = c.in-Some.check in
     let damaged : List ℕ = damaged_at c.args.marks.now p in (
-      λ h. checks-before history p check damaged (c.is_check_of.ensures.0 h) c.in-Some.ensures.latest,
-      λ all. c.is_check_of.ensures.1 (All-found (IsCheckOf history p) damaged check all c.in-Some.ensures.marked),
+      λ h. checks-before history p check damaged
+          (c.is_check_of.ensures.0 h) c.in-Some.ensures.latest,
+      λ all. c.is_check_of.ensures.1
+          (All-found (IsCheckOf history p) damaged check all c.in-Some.ensures.marked),
     )

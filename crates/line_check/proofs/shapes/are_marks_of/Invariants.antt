@@ -3,4 +3,5 @@ use Rattle.line_check.specs.Shape.{IsCheckOf}
 use Rattle.line_check.proofs.shapes.are_marks_of.Given as goal
 
 abbrev pub invariant-loop-p : goal.invariant-loop-p
-invariant-loop-p l = (q : ℕ) → q < l.p → All (IsCheckOf l.history.processes q) (slice_index_or l.marks.damaged q [])
+invariant-loop-p l =
+    (q : ℕ) → q < l.p → All (IsCheckOf l.history.processes q) (slice_index_or l.marks.damaged q [])

@@ -9,7 +9,9 @@ pub returns-then-answer-n-clause-ok : goal.returns-then-answer-n-clause-ok
 returns-then-answer-n-clause-ok c = (
   λ h. absurd (false≢true h),
   λ right.
-      let counted : length c.args.answer.now.starts.now ≡ length c.args.history.now.processes = ap length right.starts_are ∙ many-starts c.args.history.now.processes c.args.answer.now.line.now in
+      let counted : length c.args.answer.now.starts.now
+      ≡ length c.args.history.now.processes = ap length right.starts_are ∙ many-starts
+      c.args.history.now.processes c.args.answer.now.line.now in
       absurd (omega (arith, counted)),
 )
 

@@ -9,7 +9,9 @@ use Rattle.line_claims.proofs.answers.put_replays.Given as goal
 abbrev pub invariant-due : goal.invariant-due
 invariant-due g l = record {
   number : (l.cursor.number ≤ l.cursor.place);
-  out : (IsOut (g.K.Sink.taken l.fn.sink) (g.K.Sink.taken l.sink) (g.K.Sink.faults l.fn.sink) (g.K.Sink.faults l.sink) l.fn.writer l.writer (records_text (map full_replay_record (replays_due l.history.processes l.line)))
+  out : (IsOut (g.K.Sink.taken l.fn.sink) (g.K.Sink.taken l.sink) (g.K.Sink.faults l.fn.sink)
+      (g.K.Sink.faults l.sink) l.fn.writer l.writer
+      (records_text (map full_replay_record (replays_due l.history.processes l.line)))
       (records_text (map full_replay_record (still_due l.history.processes l.line l.cursor))));
 }
 

@@ -13,18 +13,36 @@ use Rattle.line_claims.proofs.answers.put_start.Goals as goal
 
 -- the text of the record of a process that goes on from this choice
 text_at : List Process → ℕ → Choice → List ℕ
-text_at history p choice = record_text (start_record p (record { inc = restarted_incarnation choice (incarnation_at history p); state = state_at (tape_at history p) choice }))
+text_at history p choice = record_text (start_record p (record {
+  inc = restarted_incarnation choice
+      (incarnation_at history p);
+  state = state_at (tape_at history p) choice;
+}))
 
-text_is : (history : List Process) (line : List Choice) (p : ℕ) (choice : Choice) → choice_at line p ≡ choice → record_text (start_record p (start_due history line p)) ≡ record_text (start_record p (record { inc = restarted_incarnation choice (incarnation_at history p); state = state_at (tape_at history p) choice }))
+text_is : (history : List Process) (line : List Choice) (p : ℕ) (choice : Choice)
+    → choice_at line p ≡ choice
+    → record_text (start_record p (start_due history line p))
+    ≡ record_text (start_record p (record {
+      inc = restarted_incarnation choice
+          (incarnation_at history p);
+      state = state_at (tape_at history p) choice;
+    }))
 unfolding text_at
 text_is history line p choice is = ap (text_at history p) is
 
 pub returns-in-Check : goal.returns-in-Check
 returns-in-Check g c =
-    outputs_as _ _ _ _ _ _ _ _ _ (text_is c.args.history.now.processes c.args.line.now c.args.p (AtCheck c.in-Check.check) (sym c.at.ensures ∙ c.in-Check.is))
-    (rw (c.get-at.ensures.value, c.incarnation-inc.ensures, c.state-state.ensures, c.tape.ensures.events) at c.put_ending.ensures)
+    outputs_as _ _ _ _ _ _ _ _ _ (text_is c.args.history.now.processes c.args.line.now c.args.p
+    (AtCheck c.in-Check.check) (sym c.at.ensures ∙ c.in-Check.is))
+    (rw (
+      c.get-at.ensures.value,
+      c.incarnation-inc.ensures,
+      c.state-state.ensures,
+      c.tape.ensures.events,
+    ) at c.put_ending.ensures)
 
 pub returns-in-Now : goal.returns-in-Now
 returns-in-Now g c =
-    outputs_as _ _ _ _ _ _ _ _ _ (text_is c.args.history.now.processes c.args.line.now c.args.p Now (sym c.at.ensures ∙ c.in-Now.is))
+    outputs_as _ _ _ _ _ _ _ _ _ (text_is c.args.history.now.processes c.args.line.now c.args.p Now
+    (sym c.at.ensures ∙ c.in-Now.is))
     (rw (c.get-at.ensures.value, c.incarnation-inc.ensures) at c.put_ending-in-Now.ensures)

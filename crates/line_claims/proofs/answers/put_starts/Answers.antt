@@ -23,11 +23,13 @@ returns-in_err-put_start g c =
     let line : List Choice = c.args.line.now in
     let lt : c.loop-value.value < length history = omega arith in
     let next = next_starts (start_due history line) (length history) c.loop-value.value lt in
-    out_front _ _ _ _ _ next c.loop-value.invariant (rw c.in-Ok.ensures.1 at c.in_err-put_start.ensures) c.from_residual.ensures.1
+    out_front _ _ _ _ _ next c.loop-value.invariant
+    (rw c.in-Ok.ensures.1 at c.in_err-put_start.ensures) c.from_residual.ensures.1
 
 pub returns : goal.returns
 returns g c =
     let history : List Process = c.args.history.now.processes in
     let line : List Choice = c.args.line.now in
     let le : length history ≤ c.loop-value.value = omega arith in
-    out_all tt (no_starts (start_due history line) (length history) c.loop-value.value le) c.loop-value.invariant
+    out_all tt (no_starts (start_due history line) (length history) c.loop-value.value le)
+    c.loop-value.invariant

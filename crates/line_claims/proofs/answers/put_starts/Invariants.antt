@@ -9,5 +9,8 @@ use Rattle.line_claims.proofs.answers.put_starts.Given as goal
 
 abbrev pub invariant-loop-value : goal.invariant-loop-value
 invariant-loop-value g l =
-    IsOut (g.K.Sink.taken l.fn.sink) (g.K.Sink.taken l.sink) (g.K.Sink.faults l.fn.sink) (g.K.Sink.faults l.sink) l.fn.writer l.writer (records_text (starts_records 0 (starts_due l.history.processes l.line)))
-    (records_text (starts_records l.value (drop l.value (map (start_due l.history.processes l.line) (range_with_len 0 (length l.history.processes))))))
+    IsOut (g.K.Sink.taken l.fn.sink) (g.K.Sink.taken l.sink) (g.K.Sink.faults l.fn.sink)
+    (g.K.Sink.faults l.sink) l.fn.writer l.writer
+    (records_text (starts_records 0 (starts_due l.history.processes l.line)))
+    (records_text (starts_records l.value (drop l.value (map (start_due l.history.processes l.line)
+    (range_with_len 0 (length l.history.processes))))))

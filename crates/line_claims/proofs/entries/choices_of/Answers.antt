@@ -14,7 +14,8 @@ pub returns-in_err-choice : goal.returns-in_err-choice
 returns-in_err-choice c =
     let p = err_from_is_err_and c.from_residual.result c.from_residual.ensures.1 in
     let lt : c.loop-place.place < length c.args.row.now = omega arith in
-    rw (p.1, p.2) (sym (line_fault _ _ _ _ lt (sym c.in_err-choice.ensures)) ∙ c.loop-place.invariant.so_far)
+    rw (p.1, p.2)
+    (sym (line_fault _ _ _ _ lt (sym c.in_err-choice.ensures)) ∙ c.loop-place.invariant.so_far)
 
 pub loop-place-preserved : goal.loop-place-preserved
 loop-place-preserved c =
@@ -22,7 +23,8 @@ loop-place-preserved c =
     let long = c.loop-place.invariant.long in
     record {
       long = rw c.push.ensures (omega (arith, length-append {A = Choice}, long));
-      so_far = rw c.push.ensures (sym (line_more _ _ _ _ lt (sym c.in_ok-choice.ensures)) ∙ c.loop-place.invariant.so_far);
+      so_far = rw c.push.ensures
+          (sym (line_more _ _ _ _ lt (sym c.in_ok-choice.ensures)) ∙ c.loop-place.invariant.so_far);
     }
 
 pub returns : goal.returns

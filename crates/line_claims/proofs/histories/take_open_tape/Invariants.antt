@@ -8,8 +8,10 @@ invariant-events l = record {
   long : (length l.history.processes ≡ length l.fn.history.processes);
   count : (l.fn.number ≤ l.number);
   few : (l.number + length l.records ≤ l.fn.number + length l.fn.records);
-  read : ((rest : List Record) → tapes_left (length l.fn.history.processes) l.tapes l.fn.history.processes l.fn.number (l.fn.row ∷ (l.fn.records ++ rest))
-      ≡ tapes_left (length l.fn.history.processes) l.tapes l.history.processes l.number (l.row ∷ (l.records ++ rest)));
+  read : ((rest : List Record) → tapes_left (length l.fn.history.processes) l.tapes
+      l.fn.history.processes l.fn.number (l.fn.row ∷ (l.fn.records ++ rest))
+      ≡ tapes_left (length l.fn.history.processes) l.tapes l.history.processes l.number
+      (l.row ∷ (l.records ++ rest)));
 }
 
 abbrev pub decreases-events : goal.decreases-events

@@ -11,20 +11,28 @@ use Rattle.line_claims.proofs.judgements.put_check_text.Goals as goal
 pub returns-in_err-put_history : goal.returns-in_err-put_history
 returns-in_err-put_history g c =
     let history : List Process = c.args.history.now.processes in
-    let claim : Claim = line_claim (in_order history c.args.claim.now.marks.now) c.args.claim.now.failed.now c.args.claim.now.line.now c.args.claim.now.certificate.now in
-    out_front _ _ _ _ _ (front_first (version_of claim.marks) [] history claim) (out_none _ _ _ _) (rw c.version_of-version.ensures at c.in_err-put_history.ensures.put) c.from_residual.ensures.1
+    let claim : Claim = line_claim (in_order history c.args.claim.now.marks.now)
+    c.args.claim.now.failed.now c.args.claim.now.line.now c.args.claim.now.certificate.now in
+    out_front _ _ _ _ _ (front_first (version_of claim.marks) [] history claim) (out_none _ _ _ _)
+    (rw c.version_of-version.ensures at c.in_err-put_history.ensures.put)
+    c.from_residual.ensures.1
 
 pub returns-in_err-put_claim : goal.returns-in_err-put_claim
 returns-in_err-put_claim g c =
     let history : List Process = c.args.history.now.processes in
-    let claim : Claim = line_claim (in_order history c.args.claim.now.marks.now) c.args.claim.now.failed.now c.args.claim.now.line.now c.args.claim.now.certificate.now in
-    let front = out_more _ _ (front_first (version_of claim.marks) [] history claim) (out_none _ _ _ _) (rw c.version_of-version.ensures at c.in_ok-put_history.ensures.put) in
-    out_front _ _ _ _ _ (claim_next (length history) claim) front c.in_err-put_claim.ensures c.from_residual-in_err-put_claim.ensures.1
+    let claim : Claim = line_claim (in_order history c.args.claim.now.marks.now)
+    c.args.claim.now.failed.now c.args.claim.now.line.now c.args.claim.now.certificate.now in
+    let front = out_more _ _ (front_first (version_of claim.marks) [] history claim)
+    (out_none _ _ _ _) (rw c.version_of-version.ensures at c.in_ok-put_history.ensures.put) in
+    out_front _ _ _ _ _ (claim_next (length history) claim) front c.in_err-put_claim.ensures
+    c.from_residual-in_err-put_claim.ensures.1
 
 pub returns : goal.returns
 returns g c =
     let history : List Process = c.args.history.now.processes in
-    let claim : Claim = line_claim (in_order history c.args.claim.now.marks.now) c.args.claim.now.failed.now c.args.claim.now.line.now c.args.claim.now.certificate.now in
-    let front = out_more _ _ (front_first (version_of claim.marks) [] history claim) (out_none _ _ _ _) (rw c.version_of-version.ensures at c.in_ok-put_history.ensures.put) in
+    let claim : Claim = line_claim (in_order history c.args.claim.now.marks.now)
+    c.args.claim.now.failed.now c.args.claim.now.line.now c.args.claim.now.certificate.now in
+    let front = out_more _ _ (front_first (version_of claim.marks) [] history claim)
+    (out_none _ _ _ _) (rw c.version_of-version.ensures at c.in_ok-put_history.ensures.put) in
     let told = out_more _ _ (claim_next (length history) claim) front c.in_ok-put_claim.ensures in
     out_last (record_text end_record) (one_text end_record) told c.put_numbers.ensures

@@ -5,4 +5,6 @@ use Rattle.line_claims.proofs.WriteLemmas.{members_behind}
 use Rattle.line_claims.proofs.judgements.put_failed.Given as goal
 
 abbrev pub invariant-loop-value : goal.invariant-loop-value
-invariant-loop-value g l = IsOut (g.K.Sink.taken l.fn.sink) (g.K.Sink.taken l.sink) (g.K.Sink.faults l.fn.sink) (g.K.Sink.faults l.sink) l.fn.writer l.writer (record_text (failed_record l.n l.failed)) (members_behind l.failed l.n l.value)
+invariant-loop-value g l = IsOut (g.K.Sink.taken l.fn.sink) (g.K.Sink.taken l.sink)
+    (g.K.Sink.faults l.fn.sink) (g.K.Sink.faults l.sink) l.fn.writer l.writer
+    (record_text (failed_record l.n l.failed)) (members_behind l.failed l.n l.value)

@@ -8,4 +8,5 @@ use Rattle.line_claims.proofs.judgements.version_of.Given as goal
 
 abbrev pub invariant-loop-value : goal.invariant-loop-value
 invariant-loop-value l =
-    list_any is_some (in_order l.history.processes l.marks).bars ≡ list_any is_some (drop l.value (map (bar_at l.marks) (range_with_len 0 (length l.history.processes))))
+    list_any is_some (in_order l.history.processes l.marks).bars ≡ list_any is_some
+    (drop l.value (map (bar_at l.marks) (range_with_len 0 (length l.history.processes))))

@@ -7,7 +7,8 @@ pub returns-clause-alone : goal.returns-clause-alone
 returns-clause-alone c version claim fit = claim_text_again version claim fit
 
 pub returns-clause-both : goal.returns-clause-both
-returns-clause-both c version floors history claim known room fit told good same = check_text_again version floors history claim known (omega (arith, room, same)) fit told good same
+returns-clause-both c version floors history claim known room fit told good same = check_text_again
+    version floors history claim known (omega (arith, room, same)) fit told good same
 
 pub returns-clause-later : goal.returns-clause-later
 returns-clause-later c n text claim h = later_reads_the_same n text claim h

@@ -20,10 +20,12 @@ returns-in_err-put_bar_of g c =
     let history : List Process = c.args.history.now.processes in
     let lt : c.loop-value.value < length history = omega arith in
     let next = next_bars (bar_at c.args.marks.now) (length history) c.loop-value.value lt in
-    out_front _ _ _ _ _ next c.loop-value.invariant (rw c.in-Ok.ensures.1 at c.in_err-put_bar_of.ensures) c.from_residual.ensures.1
+    out_front _ _ _ _ _ next c.loop-value.invariant
+    (rw c.in-Ok.ensures.1 at c.in_err-put_bar_of.ensures) c.from_residual.ensures.1
 
 pub returns : goal.returns
 returns g c =
     let history : List Process = c.args.history.now.processes in
     let le : length history ≤ c.loop-value.value = omega arith in
-    out_all tt (no_bars (bar_at c.args.marks.now) (length history) c.loop-value.value le) c.loop-value.invariant
+    out_all tt (no_bars (bar_at c.args.marks.now) (length history) c.loop-value.value le)
+    c.loop-value.invariant

@@ -9,5 +9,8 @@ use Rattle.line_claims.proofs.marks.put_bars.Given as goal
 
 abbrev pub invariant-loop-value : goal.invariant-loop-value
 invariant-loop-value g l =
-    IsOut (g.K.Sink.taken l.fn.sink) (g.K.Sink.taken l.sink) (g.K.Sink.faults l.fn.sink) (g.K.Sink.faults l.sink) l.fn.writer l.writer (records_text (bars_records 0 (in_order l.history.processes l.marks).bars))
-    (records_text (bars_records l.value (drop l.value (map (bar_at l.marks) (range_with_len 0 (length l.history.processes))))))
+    IsOut (g.K.Sink.taken l.fn.sink) (g.K.Sink.taken l.sink) (g.K.Sink.faults l.fn.sink)
+    (g.K.Sink.faults l.sink) l.fn.writer l.writer
+    (records_text (bars_records 0 (in_order l.history.processes l.marks).bars))
+    (records_text (bars_records l.value
+    (drop l.value (map (bar_at l.marks) (range_with_len 0 (length l.history.processes))))))

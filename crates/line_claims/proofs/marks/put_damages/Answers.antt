@@ -12,18 +12,27 @@ pub loop-value-preserved : goal.loop-value-preserved
 loop-value-preserved g c =
     let history : List Process = c.args.history.now.processes in
     let lt : c.loop-value.value < length history = omega arith in
-    let next = next_damages (damaged_of history c.args.marks.now) (length history) c.loop-value.value lt in
-    out_more _ _ next c.loop-value.invariant (rw (c.checks-last.ensures.value, c.tape.ensures.events, c.in-Ok.ensures.1) at c.in_ok-put_damages_of.ensures)
+    let next = next_damages (damaged_of history c.args.marks.now)
+    (length history) c.loop-value.value lt in
+    out_more _ _ next c.loop-value.invariant (rw (
+      c.checks-last.ensures.value,
+      c.tape.ensures.events,
+      c.in-Ok.ensures.1,
+    ) at c.in_ok-put_damages_of.ensures)
 
 pub returns-in_err-put_damages_of : goal.returns-in_err-put_damages_of
 returns-in_err-put_damages_of g c =
     let history : List Process = c.args.history.now.processes in
     let lt : c.loop-value.value < length history = omega arith in
-    let next = next_damages (damaged_of history c.args.marks.now) (length history) c.loop-value.value lt in
-    out_front _ _ _ _ _ next c.loop-value.invariant (rw (c.checks-last.ensures.value, c.tape.ensures.events, c.in-Ok.ensures.1) at c.in_err-put_damages_of.ensures) c.from_residual.ensures.1
+    let next = next_damages (damaged_of history c.args.marks.now)
+    (length history) c.loop-value.value lt in
+    out_front _ _ _ _ _ next c.loop-value.invariant
+    (rw (c.checks-last.ensures.value, c.tape.ensures.events, c.in-Ok.ensures.1) at
+    c.in_err-put_damages_of.ensures) c.from_residual.ensures.1
 
 pub returns : goal.returns
 returns g c =
     let history : List Process = c.args.history.now.processes in
     let le : length history ≤ c.loop-value.value = omega arith in
-    out_all tt (no_damages (damaged_of history c.args.marks.now) (length history) c.loop-value.value le) c.loop-value.invariant
+    out_all tt (no_damages (damaged_of history c.args.marks.now)
+    (length history) c.loop-value.value le) c.loop-value.invariant

@@ -8,5 +8,8 @@ use Rattle.line_claims.proofs.marks.put_damages.Given as goal
 
 abbrev pub invariant-loop-value : goal.invariant-loop-value
 invariant-loop-value g l =
-    IsOut (g.K.Sink.taken l.fn.sink) (g.K.Sink.taken l.sink) (g.K.Sink.faults l.fn.sink) (g.K.Sink.faults l.sink) l.fn.writer l.writer (records_text (damages_records 0 (in_order l.history.processes l.marks).damaged))
-    (records_text (damages_records l.value (drop l.value (map (damaged_of l.history.processes l.marks) (range_with_len 0 (length l.history.processes))))))
+    IsOut (g.K.Sink.taken l.fn.sink) (g.K.Sink.taken l.sink) (g.K.Sink.faults l.fn.sink)
+    (g.K.Sink.faults l.sink) l.fn.writer l.writer
+    (records_text (damages_records 0 (in_order l.history.processes l.marks).damaged))
+    (records_text (damages_records l.value (drop l.value (map
+    (damaged_of l.history.processes l.marks) (range_with_len 0 (length l.history.processes))))))

@@ -9,7 +9,8 @@ invariant-records l = record {
   kept : IfSome l.begun IsBegun;
   first : (l.begun ≡ None → l.number ≡ 1);
   room : (l.number + length l.records < 2 ^ 64);
-  same : ((rest : List Record) → left_of l.fn.begun l.fn.number (records_of_text l.piece ++ rest) ≡ left_of l.begun l.number (l.records ++ rest));
+  same : ((rest : List Record) → left_of l.fn.begun l.fn.number (records_of_text l.piece ++ rest)
+      ≡ left_of l.begun l.number (l.records ++ rest));
 }
 
 abbrev pub decreases-records : goal.decreases-records

@@ -10,7 +10,8 @@ invariant-replays l = record {
   count : (l.fn.number ≤ l.number);
   few : (l.number + length l.records ≤ l.fn.number + length l.fn.records);
   read : ((version : ℕ) (rest : List Record) → 3 ≤ version
-      → replays_left version l.n (claim_view l.fn.claim) l.fn.number (l.fn.row ∷ (l.fn.records ++ rest))
+      → replays_left version l.n (claim_view l.fn.claim) l.fn.number
+      (l.fn.row ∷ (l.fn.records ++ rest))
       ≡ replays_left version l.n (claim_view l.claim) l.number (l.row ∷ (l.records ++ rest)));
 }
 

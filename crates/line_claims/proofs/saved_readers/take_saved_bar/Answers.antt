@@ -3,10 +3,13 @@ use Rattle.line_claims.proofs.ReadingLemmas.{goes_by, then_end, then_more, then_
 use Rattle.line_claims.proofs.saved_readers.take_saved_bar.Goals as goal
 
 pub returns-then-not-is_named-clause-exact : goal.returns-then-not-is_named-clause-exact
-returns-then-not-is_named-clause-exact c = goes_by c.take_round.result _ _ _ _ (λ rest. then_end _ _ _ _ _ rest _ (sym c.is_named.ensures ∙ c.if-not-is_named.true)) c.take_round.ensures.exact
+returns-then-not-is_named-clause-exact c = goes_by c.take_round.result _ _ _ _ (λ rest. then_end _ _
+    _ _ _ rest _ (sym c.is_named.ensures ∙ c.if-not-is_named.true)) c.take_round.ensures.exact
 
 pub returns-in-Ok-clause-exact : goal.returns-in-Ok-clause-exact
-returns-in-Ok-clause-exact c = λ rest. then_more _ _ _ _ _ _ rest _ (sym c.is_named.ensures ∙ c.if-not-is_named.false) (rw c.n-n.ensures.value at c.in-Ok.ensures.ok)
+returns-in-Ok-clause-exact c = λ rest. then_more _ _ _ _ _ _ rest _ (sym c.is_named.ensures ∙
+    c.if-not-is_named.false) (rw c.n-n.ensures.value at c.in-Ok.ensures.ok)
 
 pub returns-in-Err-clause-exact : goal.returns-in-Err-clause-exact
-returns-in-Err-clause-exact c = λ rest. rw c.fault_at.ensures (then_refused _ _ _ _ _ rest _ _ (sym c.is_named.ensures ∙ c.if-not-is_named.false) (rw c.n-n.ensures.value at c.in-Err.ensures.err))
+returns-in-Err-clause-exact c = λ rest. rw c.fault_at.ensures (then_refused _ _ _ _ _ rest _ _ (sym
+    c.is_named.ensures ∙ c.if-not-is_named.false) (rw c.n-n.ensures.value at c.in-Err.ensures.err))

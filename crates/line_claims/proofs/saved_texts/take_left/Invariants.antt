@@ -7,7 +7,8 @@ abbrev pub invariant-records : goal.invariant-records
 invariant-records l = record {
   some : (2 ≤ l.number);
   room : (l.number + length l.records < 2 ^ 64);
-  same : (saved_alone (saved_left l.fn.reader 2 l.fn.records) ≡ saved_alone (saved_left l.reader l.number l.records));
+  same : (saved_alone (saved_left l.fn.reader 2 l.fn.records)
+      ≡ saved_alone (saved_left l.reader l.number l.records));
 }
 
 abbrev pub decreases-records : goal.decreases-records

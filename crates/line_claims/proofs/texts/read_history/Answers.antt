@@ -2,4 +2,5 @@ use Rattle.line_claims.proofs.FaultLemmas.{history_text_faults, told_codes}
 use Rattle.line_claims.proofs.texts.read_history.Goals as goal
 
 pub returns-in-Err-clause-codes : goal.returns-in-Err-clause-codes
-returns-in-Err-clause-codes c = rw c.told.ensures (told_codes _ _ (history_text_faults _) c.in-Err.ensures)
+returns-in-Err-clause-codes c =
+    rw c.told.ensures (told_codes _ _ (history_text_faults _) c.in-Err.ensures)

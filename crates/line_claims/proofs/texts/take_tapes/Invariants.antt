@@ -8,7 +8,8 @@ invariant-records l = record {
   there : (l.tapes ≤ length l.fn.history.processes);
   room : (l.number + length l.records < 2 ^ 64);
   same : (tapes_left (length l.fn.history.processes) l.tapes l.history.processes l.number l.records
-      ≡ tapes_left (length l.fn.history.processes) 0 l.fn.history.processes l.fn.first l.fn.records);
+      ≡ tapes_left
+      (length l.fn.history.processes) 0 l.fn.history.processes l.fn.first l.fn.records);
 }
 
 abbrev pub decreases-records : goal.decreases-records

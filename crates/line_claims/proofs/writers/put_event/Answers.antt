@@ -10,4 +10,5 @@ pub returns-in-Check-clause-put : goal.returns-in-Check-clause-put
 returns-in-Check-clause-put g c = rw c.in-Check.is c.put_check.ensures.put
 
 pub returns-in-Mark-clause-put : goal.returns-in-Mark-clause-put
-returns-in-Mark-clause-put g c = rw c.in-Mark.is (rw c.get-place.ensures.value at c.put_numbers.ensures)
+returns-in-Mark-clause-put g c =
+    rw c.in-Mark.is (rw c.get-place.ensures.value at c.put_numbers.ensures)

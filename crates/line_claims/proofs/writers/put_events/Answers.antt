@@ -18,11 +18,13 @@ loop-i-preserved g c =
     let i : ℕ = c.loop-i.i in
     let event : Event = event_of_ref c.at.result in
     let within : i < length events = slice_get_within events i event c.at.ensures in
-    let there : event ≡ get_or events i event = sym (get_or_from_slice_get events i event event c.at.ensures) in
+    let there : event
+    ≡ get_or events i event = sym (get_or_from_slice_get events i event event c.at.ensures) in
     let next = item_left event_record events i event within there in
     record {
       part = out_more _ _ next c.loop-i.invariant.part c.in_ok-put_event.ensures.put;
-      fits = front_fits FitsWords events i event within there c.loop-i.invariant.fits c.in_ok-put_event.ensures.fits;
+      fits = front_fits FitsWords events i event within there c.loop-i.invariant.fits
+          c.in_ok-put_event.ensures.fits;
     }
 
 pub returns-in_err-put_event-clause-put : goal.returns-in_err-put_event-clause-put
@@ -31,9 +33,11 @@ returns-in_err-put_event-clause-put g c =
     let i : ℕ = c.loop-i.i in
     let event : Event = event_of_ref c.at.result in
     let within : i < length events = slice_get_within events i event c.at.ensures in
-    let there : event ≡ get_or events i event = sym (get_or_from_slice_get events i event event c.at.ensures) in
+    let there : event
+    ≡ get_or events i event = sym (get_or_from_slice_get events i event event c.at.ensures) in
     let next = item_left event_record events i event within there in
-    out_front _ _ _ _ _ next c.loop-i.invariant.part c.in_err-put_event.ensures.put c.from_residual.ensures.1
+    out_front _ _ _ _ _ next c.loop-i.invariant.part c.in_err-put_event.ensures.put
+    c.from_residual.ensures.1
 
 pub returns-clause-put : goal.returns-clause-put
 returns-clause-put g c =

@@ -9,6 +9,8 @@ use Rattle.line_claims.proofs.writers.put_events.Given as goal
 
 abbrev pub invariant-loop-i : goal.invariant-loop-i
 invariant-loop-i g l = record {
-  part : IsOut (g.K.Sink.taken l.fn.sink) (g.K.Sink.taken l.sink) (g.K.Sink.faults l.fn.sink) (g.K.Sink.faults l.sink) l.fn.writer l.writer (records_text (map event_record l.events)) (records_text (map event_record (drop l.i l.events)));
+  part : IsOut (g.K.Sink.taken l.fn.sink) (g.K.Sink.taken l.sink) (g.K.Sink.faults l.fn.sink)
+      (g.K.Sink.faults l.sink) l.fn.writer l.writer (records_text (map event_record l.events))
+      (records_text (map event_record (drop l.i l.events)));
   fits : AllByRecursion FitsWords (take l.i l.events);
 }

@@ -16,8 +16,11 @@ loop-p-preserved g c =
     let lt : c.loop-p.p < length history = omega arith in
     let next = next_tape history c.loop-p.p lt in
     record {
-      part = out_more _ _ next c.loop-p.invariant.part (rw c.in-Ok.ensures.1 at c.in_ok-put_tape_of.ensures.put);
-      fits = front_fits FitsProcess history c.loop-p.p (process_at history c.loop-p.p) lt (get_or_default history c.loop-p.p _ _ lt) c.loop-p.invariant.fits (rw c.in-Ok.ensures.1 at c.in_ok-put_tape_of.ensures.fits);
+      part = out_more _ _ next c.loop-p.invariant.part
+          (rw c.in-Ok.ensures.1 at c.in_ok-put_tape_of.ensures.put);
+      fits = front_fits FitsProcess history c.loop-p.p (process_at history c.loop-p.p) lt
+          (get_or_default history c.loop-p.p _ _ lt) c.loop-p.invariant.fits
+          (rw c.in-Ok.ensures.1 at c.in_ok-put_tape_of.ensures.fits);
     }
 
 pub returns-in_err-put_tape_of-clause-put : goal.returns-in_err-put_tape_of-clause-put
@@ -25,7 +28,8 @@ returns-in_err-put_tape_of-clause-put g c =
     let history : List Process = c.args.history.now.processes in
     let lt : c.loop-p.p < length history = omega arith in
     let next = next_tape history c.loop-p.p lt in
-    out_front _ _ _ _ _ next c.loop-p.invariant.part (rw c.in-Ok.ensures.1 at c.in_err-put_tape_of.ensures.put) c.from_residual.ensures.1
+    out_front _ _ _ _ _ next c.loop-p.invariant.part
+    (rw c.in-Ok.ensures.1 at c.in_err-put_tape_of.ensures.put) c.from_residual.ensures.1
 
 pub returns-clause-put : goal.returns-clause-put
 returns-clause-put g c =
@@ -45,4 +49,5 @@ returns-clause-range g c rounds =
     let history : List Process = c.args.history.now.processes in
     let whole : take c.loop-p.p history ≡ history = take_all c.loop-p.p history (omega arith) in
     let few = c.n-n.ensures.limits.few in
-    history_in_range history c.n-n.ensures.limits (record { few = omega (arith, few); processes = rw whole at c.loop-p.invariant.fits }) rounds
+    history_in_range history c.n-n.ensures.limits (record
+    { few = omega (arith, few); processes = rw whole at c.loop-p.invariant.fits }) rounds

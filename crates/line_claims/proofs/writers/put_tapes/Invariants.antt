@@ -8,6 +8,8 @@ use Rattle.line_claims.proofs.writers.put_tapes.Given as goal
 
 abbrev pub invariant-loop-p : goal.invariant-loop-p
 invariant-loop-p g l = record {
-  part : IsOut (g.K.Sink.taken l.fn.sink) (g.K.Sink.taken l.sink) (g.K.Sink.faults l.fn.sink) (g.K.Sink.faults l.sink) l.fn.writer l.writer (records_text (tapes_records 0 l.history.processes)) (records_text (tapes_records l.p (drop l.p l.history.processes)));
+  part : IsOut (g.K.Sink.taken l.fn.sink) (g.K.Sink.taken l.sink) (g.K.Sink.faults l.fn.sink)
+      (g.K.Sink.faults l.sink) l.fn.writer l.writer (records_text (tapes_records 0
+      l.history.processes)) (records_text (tapes_records l.p (drop l.p l.history.processes)));
   fits : AllByRecursion FitsProcess (take l.p l.history.processes);
 }

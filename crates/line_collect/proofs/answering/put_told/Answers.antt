@@ -7,10 +7,13 @@ pub returns-in-Took : goal.returns-in-Took
 returns-in-Took g c = rw c.in-Took.is (rw c.numbers_of-in-Took.ensures at c.put_ending.ensures)
 
 pub returns-in-Checked : goal.returns-in-Checked
-returns-in-Checked g c = rw c.in-Checked.is (rw c.get.ensures.value at c.put_numbers-in-Checked.ensures)
+returns-in-Checked g c =
+    rw c.in-Checked.is (rw c.get.ensures.value at c.put_numbers-in-Checked.ensures)
 
 pub returns-in-Damaged : goal.returns-in-Damaged
-returns-in-Damaged g c = rw c.in-Damaged.is (rw c.get-in-Damaged.ensures.value at c.put_numbers-in-Damaged.ensures)
+returns-in-Damaged g c =
+    rw c.in-Damaged.is (rw c.get-in-Damaged.ensures.value at c.put_numbers-in-Damaged.ensures)
 
 pub returns-in-Barred : goal.returns-in-Barred
-returns-in-Barred g c = rw c.in-Barred.is (rw c.get-in-Barred.ensures.value at c.put_numbers-in-Barred.ensures)
+returns-in-Barred g c =
+    rw c.in-Barred.is (rw c.get-in-Barred.ensures.value at c.put_numbers-in-Barred.ensures)

@@ -13,5 +13,7 @@ returns-in-Err g c =
       refl,
       λ differs.
           let why = c.in-Err.ensures.refused differs in
-          refused_further c.args.live.now (reports.Recover c.args.failed.now) c.in-Err.error why.0 (subst (λ (k : CollectionView). HasSpentProcess k c.args.failed.now) c.kept.ensures why.1),
+          refused_further c.args.live.now (reports.Recover c.args.failed.now) c.in-Err.error why.0
+          (subst (λ (k : CollectionView). HasSpentProcess k c.args.failed.now) c.kept.ensures
+          why.1),
     )

@@ -9,5 +9,10 @@ pub returns : goal.returns
 returns c =
     let floor : Floor = c.args.floor.now in
     let old : Plan = c.args.plan.now in
-    ap (λ entries. let p : Plan = record old { certificate = entries; replays = c.bring_names.new.names } in p) c.bring_entries.ensures
-    ∙ ap (λ names. let p : Plan = record old { certificate = mapped_in_place (whole_entry floor) old.certificate; replays = names } in p) c.bring_names.ensures
+    ap (λ entries. let p : Plan = record old
+    { certificate = entries; replays = c.bring_names.new.names } in p) c.bring_entries.ensures
+    ∙ ap (λ names. let p : Plan = record old {
+      certificate = mapped_in_place
+          (whole_entry floor) old.certificate;
+      replays = names;
+    } in p) c.bring_names.ensures

@@ -1,6 +1,7 @@
 -- The two searches find where what the process sent begins and ends.
 use Rattle.std.proofs.Common.{◌≡◌, ℕ, leb, ltb, List, rules}
-use Rattle.std.proofs.lemmas.List.Sorted.{IsPartitionPoint-from_clause, IsPartitionedBy-leb, IsPartitionedBy-ltb}
+use Rattle.std.proofs.lemmas.List.Sorted.{IsPartitionPoint-from_clause, IsPartitionedBy-leb}
+use Rattle.std.proofs.lemmas.List.Sorted.{IsPartitionedBy-ltb}
 use Rattle.line_names.specs.declared.messages.MsgName.{MsgName}
 use Rattle.line_colours.proofs.InboxLemmas.{part_ascends, part_sent}
 use Rattle.line_colours.proofs.by_sender.part_of.Goals as goal

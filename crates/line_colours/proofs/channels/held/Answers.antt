@@ -55,4 +55,5 @@ returns-in-None c =
     c.partition_point-place.ensures.partitioned
     (IsPartitionedBy-ltb (λ (i : InboxView). i.to) inboxes to
     (inboxes_in_order inboxes c.requires)) (λ a r q k. search rules) in
-    ap (messages_from c.args.from) (sym (held_past inboxes to place point c.in-None.ensures.lookup.3))
+    ap (messages_from c.args.from)
+    (sym (held_past inboxes to place point c.in-None.ensures.lookup.3))

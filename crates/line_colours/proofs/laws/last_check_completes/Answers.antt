@@ -7,7 +7,8 @@ pub returns-clause-line : goal.returns-clause-line
 returns-clause-line c = IsLine-last
 
 pub returns-clause-channels : goal.returns-clause-channels
-returns-clause-channels c = λ history turning p line state within is at others none a b. channels-last history turning p line within is at others state none a b
+returns-clause-channels c = λ history turning p line state within is at others none a b.
+    channels-last history turning p line within is at others state none a b
 
 pub returns-clause-checks : goal.returns-clause-checks
 returns-clause-checks c = IsTurning-checked

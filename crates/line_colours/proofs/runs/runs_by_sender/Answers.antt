@@ -1,5 +1,6 @@
 -- The messages of one more sender are cut off.
-use Rattle.std.proofs.Common.{◌≡◌, ◌<◌, ◌∙◌, ℕ, leb, List, [], ◌∷◌, ◌++◌, get_or, sym, ap, subst, arith, rules}
+use Rattle.std.proofs.Common.{◌≡◌, ◌<◌, ◌∙◌, ℕ, leb, List, [], ◌∷◌, ◌++◌, get_or, sym, ap, subst}
+use Rattle.std.proofs.Common.{arith, rules}
 use Rattle.std.proofs.lemmas.List.{get_or_default}
 use Rattle.std.proofs.lemmas.List.Sorted.{IsPartitionPoint-from_clause, IsPartitionedBy-leb}
 use Rattle.line_names.specs.declared.messages.MsgName.{MsgName}
@@ -18,7 +19,8 @@ each-smaller c =
     let more : c.each.start < c.partition_point-end.result =
     cut_goes_on messages c.each.start c.each.runs.items c.each.invariant c.requires
     c.each-test.true first.from c.partition_point-end.result
-    (λ d. ap (λ (m : MsgName). m.from) (get_or_default messages c.each.start d first c.each-test.true
+    (λ d. ap (λ (m : MsgName). m.from)
+    (get_or_default messages c.each.start d first c.each-test.true
     ∙ sym c.index-messages-start.is)) last c.partition_point-end.ensures.bound in
     omega (arith, more, c.each-test.true)
 
@@ -33,10 +35,12 @@ each-preserved c =
     let end : ℕ = c.partition_point-end.result in
     let runs : List SenderRun = c.each.runs.items in
     let start : ℕ = c.each.start in
-    let more : IsCut messages end (runs ++ record { from = first.from; start = start; end = end } ∷ []) =
+    let more : IsCut messages end
+    (runs ++ record { from = first.from; start = start; end = end } ∷ []) =
     IsCut-more messages start runs c.each.invariant c.requires c.each-test.true first.from end
     (λ d. ap (λ (m : MsgName). m.from) (get_or_default messages start d first c.each-test.true
     ∙ sym c.index-messages-start.is)) last c.partition_point-end.ensures.bound in
     subst (IsCut messages end) (sym c.in_ok-push.ensures.items)
-    (subst (λ (from : ℕ). IsCut messages end (runs ++ record { from = from; start = start; end = end } ∷ []))
+    (subst (λ (from : ℕ). IsCut messages end
+    (runs ++ record { from = from; start = start; end = end } ∷ []))
     (ap (λ (m : MsgName). m.from) c.index-messages-start.is) more)

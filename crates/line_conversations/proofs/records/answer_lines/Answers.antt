@@ -6,7 +6,8 @@ use Rattle.line_conversations.proofs.PlainLemmas.{allowed_to}
 use Rattle.line_conversations.proofs.records.answer_lines.Goals as goal
 
 pub lines-init : goal.lines-init
-lines-init g c = record { answered = whole_none _ _ _ _; input = λ e. sym c.is_plain-plain.ensures ∙ e; sound = refl }
+lines-init g c = record
+    { answered = whole_none _ _ _ _; input = λ e. sym c.is_plain-plain.ensures ∙ e; sound = refl }
 
 pub returns-in_err-at-clause-err : goal.returns-in_err-at-clause-err
 returns-in_err-at-clause-err g c =

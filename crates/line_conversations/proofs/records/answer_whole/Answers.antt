@@ -6,14 +6,20 @@ use Rattle.line_conversations.proofs.records.answer_whole.Goals as goal
 
 pub returns-then-line-gt-MOST_LINE-clause-ok : goal.returns-then-line-gt-MOST_LINE-clause-ok
 returns-then-line-gt-MOST_LINE-clause-ok g c =
-    on_ok_weaker c.answer_fault.result (λ h. other_answers _ _ _ _ _ _ _ (dropped_record _ c.requires (omega arith)) h) (c.answer_fault.ensures.ok _ (g.met.C.Answerer.bad_record c.args.seat.now.answerer))
+    on_ok_weaker c.answer_fault.result
+    (λ h. other_answers _ _ _ _ _ _ _ (dropped_record _ c.requires (omega arith)) h)
+    (c.answer_fault.ensures.ok _ (g.met.C.Answerer.bad_record c.args.seat.now.answerer))
 
 pub returns-then-line-gt-MOST_LINE-clause-err : goal.returns-then-line-gt-MOST_LINE-clause-err
 returns-then-line-gt-MOST_LINE-clause-err g c =
-    on_err_weaker c.answer_fault.result (λ h. other_front _ _ _ _ _ _ _ (dropped_record _ c.requires (omega arith)) h) (c.answer_fault.ensures.err _ (g.met.C.Answerer.bad_record c.args.seat.now.answerer))
+    on_err_weaker c.answer_fault.result
+    (λ h. other_front _ _ _ _ _ _ _ (dropped_record _ c.requires (omega arith)) h)
+    (c.answer_fault.ensures.err _ (g.met.C.Answerer.bad_record c.args.seat.now.answerer))
 
 pub returns-clause-ok : goal.returns-clause-ok
-returns-clause-ok g c = on_ok_weaker c.answer_line.result (λ h. other_answers _ _ _ _ _ _ _ (kept_record _ c.requires (omega arith)) h) c.answer_line.ensures.ok
+returns-clause-ok g c = on_ok_weaker c.answer_line.result (λ h. other_answers _ _ _ _ _ _ _
+    (kept_record _ c.requires (omega arith)) h) c.answer_line.ensures.ok
 
 pub returns-clause-err : goal.returns-clause-err
-returns-clause-err g c = on_err_weaker c.answer_line.result (λ h. other_front _ _ _ _ _ _ _ (kept_record _ c.requires (omega arith)) h) c.answer_line.ensures.err
+returns-clause-err g c = on_err_weaker c.answer_line.result (λ h. other_front _ _ _ _ _ _ _
+    (kept_record _ c.requires (omega arith)) h) c.answer_line.ensures.err

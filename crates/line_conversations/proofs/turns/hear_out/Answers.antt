@@ -4,7 +4,8 @@ use Rattle.line_conversations.specs.declared.faults.ServeError.TheVariants as er
 use Rattle.line_conversations.proofs.turns.hear_out.Goals as goal
 
 pub returns-in-Ok-serve_all-clause-done : goal.returns-in-Ok-serve_all-clause-done
-returns-in-Ok-serve_all-clause-done g c = rw c.into_answerer.ensures (rw c.in-Ok-new.ensures at c.in-Ok-serve_all.ensures.state)
+returns-in-Ok-serve_all-clause-done g c =
+    rw c.into_answerer.ensures (rw c.in-Ok-new.ensures at c.in-Ok-serve_all.ensures.state)
 
 pub returns-clause-cause : goal.returns-clause-cause
 returns-clause-cause g c is =

@@ -2,11 +2,18 @@ use Rattle.std.proofs.Common.{◌≡◌, ◌∙◌, ap, arith, refl}
 use Rattle.std.specs.Prelude.{Err}
 use Rattle.std.proofs.lemmas.Result.{err_from_is_err_and}
 use Rattle.line_conversations.specs.declared.faults.ServeError.TheVariants as errors
-use Rattle.line_conversations.proofs.TurnLemmas.{served_all, served_front, served_none, served_on, served_still, served_until}
+use Rattle.line_conversations.proofs.TurnLemmas.{served_all, served_front, served_none, served_on}
+use Rattle.line_conversations.proofs.TurnLemmas.{served_still, served_until}
 use Rattle.line_conversations.proofs.turns.serve_lines.Goals as goal
 
 pub turns-init : goal.turns-init
-turns-init g c = record { room = c.requires.room; served = served_none _ _ _ _ _ _ c.requires.fresh; heard = refl; sound = refl; unended = refl }
+turns-init g c = record {
+  room = c.requires.room;
+  served = served_none _ _ _ _ _ _ c.requires.fresh;
+  heard = refl;
+  sound = refl;
+  unended = refl;
+}
 
 pub returns-in_err-more-clause-write : goal.returns-in_err-more-clause-write
 returns-in_err-more-clause-write g c is =
@@ -18,7 +25,8 @@ returns-in_err-more-clause-write g c is =
 pub returns-then-not-more-clause-ok : goal.returns-then-not-more-clause-ok
 returns-then-not-more-clause-ok g c =
     let turn = rw c.if-not-more.true at c.in_ok-more.ensures.ok in
-    served_all _ _ _ _ _ _ _ _ _ _ c.turns.invariant.served _ _ _ _ turn (c.in_ok-more.ensures.end c.if-not-more.true c.turns.invariant.room)
+    served_all _ _ _ _ _ _ _ _ _ _ c.turns.invariant.served _ _ _ _ turn
+    (c.in_ok-more.ensures.end c.if-not-more.true c.turns.invariant.room)
 
 pub turns-preserved : goal.turns-preserved
 turns-preserved g c =
@@ -37,7 +45,8 @@ returns-in_err-more-clause-read g c is =
     let was : c.take_turn.result ≡ Err c.in_err-more.field-0.0 = c.in_err-more.was in
     let same : c.take_turn.result ≡ Err errors.Read = cc in
     let lost = c.take_turn.ensures.read same in
-    served_until _ _ _ _ _ _ _ _ _ _ c.turns.invariant.served _ _ _ lost.2 (ap g.K.Sink.taken lost.1)
+    served_until _ _ _ _ _ _ _ _ _ _ c.turns.invariant.served _ _ _ lost.2
+    (ap g.K.Sink.taken lost.1)
 
 pub returns-clause-read : goal.returns-clause-read
 returns-clause-read g c is = served_still _ _ _ _ _ _ _ _ _ _ c.turns.invariant.served

@@ -6,7 +6,8 @@ abbrev pub invariant-loop-left : goal.invariant-loop-left
 invariant-loop-left l = record {
   few : l.left ≤ length l.messages.items;
   count : vec_len l.counts ≡ vec_len l.initial.counts;
-  first : (p : ℕ) → get_or l.counts.items p 0 ≡ sends_up_to p (drop l.left l.messages.items) (get_or l.initial.counts.items p 0);
+  first : (p : ℕ) → get_or l.counts.items p 0
+      ≡ sends_up_to p (drop l.left l.messages.items) (get_or l.initial.counts.items p 0);
 }
 
 abbrev pub decreases-loop-left : goal.decreases-loop-left

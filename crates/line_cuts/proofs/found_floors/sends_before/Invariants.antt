@@ -5,4 +5,5 @@ use Rattle.line_tape.specs.Line.{events_before}
 use Rattle.line_cuts.proofs.found_floors.sends_before.Given as goal
 
 abbrev pub invariant-loop-q : goal.invariant-loop-q
-invariant-loop-q l = l.counts.items ≡ map (λ p. sends (events_before l.history.processes l.line p)) (range_with_len 0 l.q)
+invariant-loop-q l = l.counts.items
+    ≡ map (λ p. sends (events_before l.history.processes l.line p)) (range_with_len 0 l.q)

@@ -11,7 +11,8 @@ returns-in-Ok-clause-bar c =
     let marks : MarksView = c.args.marks.now in
     let floor : Floor = c.args.floor.now in
     let p : ℕ = c.args.p in
-    let lower : c.saturating_sub.result ≡ c.in-Some.bar - lost_checks floor p = c.saturating_sub.ensures ∙ ap (λ (n : ℕ). c.in-Some.bar - n) c.checks_lost.ensures in
+    let lower : c.saturating_sub.result ≡ c.in-Some.bar - lost_checks floor p =
+    c.saturating_sub.ensures ∙ ap (λ (n : ℕ). c.in-Some.bar - n) c.checks_lost.ensures in
     ap (λ (m : MarksView). bar_at m p) c.in-Ok.ensures.ok
     ∙ get_or-set_same c.args.cut.now.bars p (Some c.saturating_sub.result) None c.requires.place
     ∙ ap Some lower

@@ -9,7 +9,8 @@ pub loop-check-init : goal.loop-check-init
 loop-check-init c = record {
   count = refl;
   bars = refl;
-  marked = λ x. c.requires.none x ∙ sym (left_none c.args.marks.now c.args.floor.now c.args.p c.check-check.result x (omega (arith, c.check-check.ensures)));
+  marked = λ x. c.requires.none x ∙ sym (left_none c.args.marks.now c.args.floor.now c.args.p
+      c.check-check.result x (omega (arith, c.check-check.ensures)));
   others = λ q x apart. refl;
   above = omega (arith, c.check-check.ensures);
 }
@@ -27,16 +28,20 @@ loop-check-preserved c = record {
   count = c.cut_mark.ensures.count ∙ c.loop-check.invariant.count;
   bars = c.cut_mark.ensures.bars ∙ c.loop-check.invariant.bars;
   marked = c.in_ok-cut_mark-in-Some.ensures.marked;
-  others = λ q x apart. c.in_ok-cut_mark-in-Some.ensures.others q x apart ∙ c.loop-check.invariant.others q x apart;
+  others = λ q x apart. c.in_ok-cut_mark-in-Some.ensures.others q x apart ∙
+      c.loop-check.invariant.others q x apart;
   above = omega (arith, c.loop-check.invariant.above);
 }
 
 pub returns-after-loop-check-clause-marked : goal.returns-after-loop-check-clause-marked
 returns-after-loop-check-clause-marked c =
     let at : c.get.result ≡ c.args.p = c.get.ensures.value in
-    let up_to : All (λ d. d ≤ c.in-Some.latest) (damaged_at c.args.marks.now c.args.p) = subst (λ (q : ℕ). All (λ d. d ≤ c.in-Some.latest) (damaged_at c.args.marks.now q)) at c.in-Some.ensures.latest in
+    let up_to : All (λ d. d ≤ c.in-Some.latest) (damaged_at c.args.marks.now c.args.p) = subst
+    (λ (q : ℕ). All (λ d. d ≤ c.in-Some.latest) (damaged_at c.args.marks.now q)) at
+    c.in-Some.ensures.latest in
     λ x. c.loop-check.invariant.marked x
-    ∙ left_all c.args.marks.now c.args.floor.now c.args.p c.loop-check.check x (λ k d h. omega (arith, up_to k d h))
+    ∙ left_all c.args.marks.now c.args.floor.now c.args.p c.loop-check.check x
+    (λ k d h. omega (arith, up_to k d h))
 
 pub returns-in-None : goal.returns-in-None
 returns-in-None c =
@@ -44,6 +49,7 @@ returns-in-None c =
     record {
       count = refl;
       bars = refl;
-      marked = λ x. c.requires.none x ∙ sym (none_left c.args.marks.now c.args.floor.now c.args.p x (ap (damaged_at c.args.marks.now) (sym at) ∙ c.in-None.ensures.none.0 refl));
+      marked = λ x. c.requires.none x ∙ sym (none_left c.args.marks.now c.args.floor.now c.args.p x
+          (ap (damaged_at c.args.marks.now) (sym at) ∙ c.in-None.ensures.none.0 refl));
       others = λ q x apart. refl;
     }

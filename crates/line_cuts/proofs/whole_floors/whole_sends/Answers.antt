@@ -5,4 +5,5 @@ use Rattle.line_cuts.proofs.whole_floors.whole_sends.Goals as goal
 
 pub returns-clause-none : goal.returns-clause-none
 returns-clause-none c =
-    IfOk-weaker c.sums.result _ _ (λ sends h e. count_none c.args.floor.now c.args.later.now _ _ c.counts.ensures c.counts-counts.ensures (h e)) c.sums.ensures.none
+    IfOk-weaker c.sums.result _ _ (λ sends h e. count_none c.args.floor.now c.args.later.now _ _
+    c.counts.ensures c.counts-counts.ensures (h e)) c.sums.ensures.none

@@ -14,9 +14,16 @@ pub loop-at-preserved : goal.loop-at-preserved
 loop-at-preserved g c =
     let rest = slice_from c.loop-at.at c.args.bytes.now in
     let moves = rw rest at c.in_ok-at.ensures.moves in
-    let within : c.loop-at.at + c.in_ok-at.field-0 ≤ length c.args.bytes.now = omega (arith, ap length rest, length-drop c.loop-at.at c.args.bytes.now, c.in_ok-at.ensures.within) in
+    let within : c.loop-at.at + c.in_ok-at.field-0 ≤ length c.args.bytes.now = omega (
+      arith,
+      ap
+          length rest,
+      length-drop c.loop-at.at c.args.bytes.now,
+      c.in_ok-at.ensures.within,
+    ) in
     record {
       within = within;
-      put = puts_more _ _ _ c.loop-at.at c.in_ok-at.field-0 c.args.bytes.now c.loop-at.invariant.put moves;
+      put = puts_more _ _ _ c.loop-at.at c.in_ok-at.field-0 c.args.bytes.now c.loop-at.invariant.put
+          moves;
       sound = c.in_ok-at.ensures.sound ∙ c.loop-at.invariant.sound;
     }

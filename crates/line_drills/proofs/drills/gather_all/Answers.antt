@@ -4,6 +4,7 @@ use Rattle.line_drills.proofs.drills.gather_all.Goals as goal
 
 pub unreachable-requires : goal.unreachable-requires
 unreachable-requires c = elim c.in-NoSuchProcess.is [
-  | inl e ↦ c.in-Err.ensures.process.0 e (none_below (length c.args.collector.opening) c.empty.result c.empty.ensures.none)
+  | inl e ↦ c.in-Err.ensures.process.0 e
+      (none_below (length c.args.collector.opening) c.empty.result c.empty.ensures.none)
   | inr e ↦ (c.in-Err.ensures.unfinished.0 e).1 c.requires.whole
 ]

@@ -16,6 +16,8 @@ loop-p-preserved c =
     let p : ℕ = c.loop-p.p in
     let new : List Order = c.in_ok-orders.orders.items in
     let pushed : scripts_of c.push.new.self.items ≡ scripts_of c.loop-p.scripts.items ++ new ∷ [] =
-    ap (λ (xs : List (Vec Order Global)). scripts_of xs) c.in_ok-push.ensures.items ∙ map-append (λ (s : Vec Order Global). s.items) c.loop-p.scripts.items (c.in_ok-orders.orders ∷ []) in
+    ap (λ (xs : List (Vec Order Global)). scripts_of xs) c.in_ok-push.ensures.items ∙ map-append
+    (λ (s : Vec Order Global). s.items) c.loop-p.scripts.items (c.in_ok-orders.orders ∷ []) in
     pushed ∙ ap (λ (xs : List (List Order)). xs ++ new ∷ []) c.loop-p.invariant
-    ∙ ap (λ (x : List Order). map script (range_with_len 0 p) ++ x ∷ []) c.in_ok-orders.ensures ∙ sym (map-range_with_len_more script 0 p p (omega arith))
+    ∙ ap (λ (x : List Order). map script (range_with_len 0 p) ++ x ∷ []) c.in_ok-orders.ensures ∙
+    sym (map-range_with_len_more script 0 p p (omega arith))

@@ -23,12 +23,18 @@ returns-in-Err-clause-failed g c =
     let t = c.loop-k-test.true in
     let l = c.len-k-end.ensures in
     let S = c.args.script.now.items in
-    failed_at S c.loop-k.k c.index.result.now c.args.post c.loop-k.post c.step.new.post c.in-Err.why c.number-p.result _
+    failed_at S c.loop-k.k c.index.result.now c.args.post c.loop-k.post c.step.new.post c.in-Err.why
+    c.number-p.result _
     (there S S c.loop-k.k c.index.result.now refl (omega (arith, t, l)) c.index.ensures)
     c.loop-k.invariant.0 c.tape.ensures.known c.number-p.ensures.value c.in-Err.ensures.cause refl
 
 pub loop-k-init : goal.loop-k-init
-loop-k-init g c = (done_none c.args.post, on_none (g.G.Gate.lets c.args.gate.now) c.args.script.now.items c.args.post, inl refl)
+loop-k-init g c = (
+  done_none c.args.post,
+  on_none
+      (g.G.Gate.lets c.args.gate.now) c.args.script.now.items c.args.post,
+  inl refl,
+)
 
 pub loop-k-preserved : goal.loop-k-preserved
 loop-k-preserved g c =
@@ -40,6 +46,7 @@ loop-k-preserved g c =
       done_order S c.loop-k.k c.index.result.now c.args.post c.loop-k.post c.step.new.post
           (there S S c.loop-k.k c.index.result.now refl (omega (arith, t, l)) c.index.ensures)
           done c.in_default.ensures.done,
-      on_more (g.G.Gate.lets c.args.gate.now) S c.loop-k.k c.args.post c.loop-k.post on done c.tape.ensures.known allowed,
+      on_more (g.G.Gate.lets c.args.gate.now) S c.loop-k.k c.args.post c.loop-k.post on done
+          c.tape.ensures.known allowed,
       inr c.in_default.ensures.reported,
     )

@@ -5,7 +5,17 @@ use Rattle.line_drills.proofs.WaitLemmas.{seen_same}
 use Rattle.line_drills.proofs.workers.send_once.Goals as goal
 
 pub returns-in-NoSuchProcess-clause-cause : goal.returns-in-NoSuchProcess-clause-cause
-returns-in-NoSuchProcess-clause-cause c = (c.args.to, refl, subst (λ (why : SendWhy). IsNotSent c.args.post.now c.args.to why) c.in-NoSuchProcess.is c.in-Err.ensures.why)
+returns-in-NoSuchProcess-clause-cause c = (
+  c.args.to,
+  refl,
+  subst (λ (why : SendWhy). IsNotSent
+      c.args.post.now c.args.to why) c.in-NoSuchProcess.is c.in-Err.ensures.why,
+)
 
 pub returns-in-RingFull-clause-cause : goal.returns-in-RingFull-clause-cause
-returns-in-RingFull-clause-cause c = (seen_same c.args.post.now c.send.new.self c.in-Err.ensures.err.1, subst (λ (why : SendWhy). IsNotSent c.args.post.now c.args.to why) c.in-RingFull.is c.in-Err.ensures.why)
+returns-in-RingFull-clause-cause c = (
+  seen_same c.args.post.now c.send.new.self c.in-Err.ensures.err.1,
+  subst (λ
+      (why : SendWhy). IsNotSent c.args.post.now c.args.to why) c.in-RingFull.is
+      c.in-Err.ensures.why,
+)

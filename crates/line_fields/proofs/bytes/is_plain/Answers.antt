@@ -5,10 +5,12 @@ use Rattle.line_fields.proofs.TextLemmas.{common_front, empty_is_plain, plain_la
 use Rattle.line_fields.proofs.bytes.is_plain.Goals as goal
 
 pub loop-rest-preserved : goal.loop-rest-preserved
-loop-rest-preserved c = common_front c.loop-rest.rest.now 4096 (sym c.are_common.ensures ∙ c.if-are_common.true) ∙ c.loop-rest.invariant
+loop-rest-preserved c = common_front c.loop-rest.rest.now 4096
+    (sym c.are_common.ensures ∙ c.if-are_common.true) ∙ c.loop-rest.invariant
 
 pub returns-then-is_empty : goal.returns-then-is_empty
-returns-then-is_empty c = sym (empty_is_plain c.loop-rest.rest.now (sym c.is_empty.ensures ∙ c.if-is_empty.true)) ∙ c.loop-rest.invariant
+returns-then-is_empty c = sym (empty_is_plain c.loop-rest.rest.now
+    (sym c.is_empty.ensures ∙ c.if-is_empty.true)) ∙ c.loop-rest.invariant
 
 pub loop-i-preserved : goal.loop-i-preserved
 loop-i-preserved c =
@@ -21,5 +23,7 @@ returns c =
     let some = eqb-false (length xs) 0 (sym c.is_empty.ensures ∙ c.if-is_empty.false) in
     let at : c.loop-i.i ≡ length xs - 1 = omega (arith, some) in
     sym
-    (sym c.loop-rest.invariant ∙ c.loop-i.invariant ∙ ap (λ (i : ℕ). c.loop-i.allowed && is_input_text (drop i xs)) at
-    ∙ plain_last xs (length xs - 1) c.loop-i.allowed c.is_common-2.result (omega (arith, some)) c.is_common-2.ensures)
+    (sym c.loop-rest.invariant ∙ c.loop-i.invariant ∙ ap
+    (λ (i : ℕ). c.loop-i.allowed && is_input_text (drop i xs)) at
+    ∙ plain_last xs (length xs - 1) c.loop-i.allowed c.is_common-2.result
+    (omega (arith, some)) c.is_common-2.ensures)

@@ -5,5 +5,6 @@ use Rattle.line_fields.proofs.digits.digits_of_eight.Goals as goal
 
 pub returns : goal.returns
 returns c =
-    spelled (take 8 c.args.bytes.now) (length-chunk 0 8 c.args.bytes.now (omega (arith, c.requires)))
+    spelled (take 8 c.args.bytes.now)
+    (length-chunk 0 8 c.args.bytes.now (omega (arith, c.requires)))
     (chunk-fits w8 0 8 c.args.bytes.now c.type_inv.bytes)

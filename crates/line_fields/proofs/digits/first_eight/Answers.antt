@@ -6,4 +6,5 @@ use Rattle.line_fields.proofs.digits.first_eight.Goals as goal
 pub returns-clause-digits : goal.returns-clause-digits
 returns-clause-digits c =
     let long = length-chunk 0 16 c.args.text.now (omega arith) in
-    eight_are (take 16 c.args.text.now) _ long (values_are 16 (take 16 c.args.text.now) long (chunk-fits w8 0 16 c.args.text.now c.type_inv.text)) c.if-lanes-ne0.false
+    eight_are (take 16 c.args.text.now) _ long (values_are 16 (take 16 c.args.text.now) long
+    (chunk-fits w8 0 16 c.args.text.now c.type_inv.text)) c.if-lanes-ne0.false

@@ -6,7 +6,14 @@ use Rattle.line_fields.proofs.lines.push_number.Goals as goal
 
 pub returns-else-value-lt10000-clause-text : goal.returns-else-value-lt10000-clause-text
 returns-else-value-lt10000-clause-text c =
-    rw (c.push_pair-else-value-lt10000.ensures.text, c.push_pair.ensures.text, c.push_four-else-value-lt10000.ensures.text)
-    (append_assoc (c.args.out.now.items ++ decimal (c.args.value / 10000)) (two_digits (c.args.value / 100 % 100)) (two_digits (c.args.value % 100))
-    ∙ append_assoc c.args.out.now.items (decimal (c.args.value / 10000)) (two_digits (c.args.value / 100 % 100) ++ two_digits (c.args.value % 100))
-    ∙ ap (λ ds. c.args.out.now.items ++ ds) (sym (decimal_myriads c.args.value (omega (arith, c.if-value-lt10000.false)) (omega (arith, c.requires.small)))))
+    rw (
+      c.push_pair-else-value-lt10000.ensures.text,
+      c.push_pair.ensures.text,
+      c.push_four-else-value-lt10000.ensures.text,
+    )
+    (append_assoc (c.args.out.now.items ++ decimal (c.args.value / 10000))
+    (two_digits (c.args.value / 100 % 100)) (two_digits (c.args.value % 100))
+    ∙ append_assoc c.args.out.now.items (decimal (c.args.value / 10000))
+    (two_digits (c.args.value / 100 % 100) ++ two_digits (c.args.value % 100))
+    ∙ ap (λ ds. c.args.out.now.items ++ ds) (sym (decimal_myriads c.args.value
+    (omega (arith, c.if-value-lt10000.false)) (omega (arith, c.requires.small)))))

@@ -9,4 +9,5 @@ pub returns : goal.returns
 returns g c =
     outputs_more tt _ _ _ _ (record_text (c.args.name.now ∷ map decimal c.args.numbers.now))
     (rw c.writer.view_is at (ended _ _ _ (c.args.name.now ∷ map decimal c.args.numbers.now)
-    (begun _ _ _ c.args.name.now c.args.numbers.now c.push_word.ensures.text c.push_numbers.ensures.text) c.push_reserved.ensures.items))
+    (begun _ _ _ c.args.name.now c.args.numbers.now c.push_word.ensures.text
+    c.push_numbers.ensures.text) c.push_reserved.ensures.items))

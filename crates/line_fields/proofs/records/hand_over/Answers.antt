@@ -8,5 +8,6 @@ pub returns-clause-rows : goal.returns-clause-rows
 returns-clause-rows c =
     let fr = c.from_reader-reader.ensures in
     let rows : rows_left c.from_reader-reader.result ≡ records_of_text c.args.rest.now =
-    rw (fr.state, fr.source, no_byte_order_mark c.args.rest.now c.requires) (rows_of_text c.args.rest.now c.requires) in
+    rw (fr.state, fr.source, no_byte_order_mark c.args.rest.now c.requires)
+    (rows_of_text c.args.rest.now c.requires) in
     search (rows, rules)

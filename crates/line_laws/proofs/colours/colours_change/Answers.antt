@@ -1,5 +1,7 @@
 -- The law, by its lemmas.
-use Rattle.line_laws.proofs.ColourLemmas.{colour-check, colour-other, colour-least, colour-reached, message_colour_event, message_colour_sent, message_colour_below, colour_restarted}
+use Rattle.line_laws.proofs.ColourLemmas.{colour-check, colour-other, colour-least, colour-reached}
+use Rattle.line_laws.proofs.ColourLemmas.{message_colour_event, message_colour_sent}
+use Rattle.line_laws.proofs.ColourLemmas.{message_colour_below, colour_restarted}
 use Rattle.line_laws.proofs.colours.colours_change.Goals as goal
 
 pub returns-clause-check : goal.returns-clause-check

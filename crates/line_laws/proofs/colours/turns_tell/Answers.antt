@@ -1,5 +1,7 @@
 -- The law, by its lemmas.
-use Rattle.line_laws.proofs.TurnLemmas.{colour_of_turns, colour_of_message, turns_push, turns_idle, turns_restarted, turn_sends_rise, turn_rounds_rise, colour_at_turn, greatest_is_last, colour_by_push}
+use Rattle.line_laws.proofs.TurnLemmas.{colour_of_turns, colour_of_message, turns_push, turns_idle}
+use Rattle.line_laws.proofs.TurnLemmas.{turns_restarted, turn_sends_rise, turn_rounds_rise}
+use Rattle.line_laws.proofs.TurnLemmas.{colour_at_turn, greatest_is_last, colour_by_push}
 use Rattle.line_laws.proofs.colours.turns_tell.Goals as goal
 
 pub returns-clause-colour : goal.returns-clause-colour

@@ -1,5 +1,6 @@
 -- The law, by what stays so.
-use Rattle.line_laws.proofs.CopyLemmas.{unordered_start, unordered_event, unordered_restarted, copy_addressed}
+use Rattle.line_laws.proofs.CopyLemmas.{unordered_start, unordered_event, unordered_restarted}
+use Rattle.line_laws.proofs.CopyLemmas.{copy_addressed}
 use Rattle.line_laws.proofs.copies.copies_hold.Goals as goal
 
 pub returns-clause-start : goal.returns-clause-start

@@ -1,5 +1,6 @@
 -- The law, by what stays spent.
-use Rattle.line_laws.proofs.SpentLemmas.{next_unspent, sent_spent, spent_event, spent_restarted, no_later_event, no_later_restarted, no_later_start}
+use Rattle.line_laws.proofs.SpentLemmas.{next_unspent, sent_spent, spent_event, spent_restarted}
+use Rattle.line_laws.proofs.SpentLemmas.{no_later_event, no_later_restarted, no_later_start}
 use Rattle.line_laws.proofs.incarnations.names_apart.Goals as goal
 
 pub returns-clause-unspent : goal.returns-clause-unspent

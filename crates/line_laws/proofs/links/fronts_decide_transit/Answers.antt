@@ -6,4 +6,5 @@ pub returns-clause-fronts : goal.returns-clause-fronts
 returns-clause-fronts c = transit_by_fronts
 
 pub returns-clause-check : goal.returns-clause-check
-returns-clause-check c = λ history at state r line h none now others p q lp lq. round_transit history at state r line h none now others p q lp lq
+returns-clause-check c = λ history at state r line h none now others p q lp lq. round_transit
+    history at state r line h none now others p q lp lq

@@ -7,7 +7,9 @@ pub returns-clause-before : goal.returns-clause-before
 returns-clause-before c = λ history line. parts history line history (open_are history line)
 
 pub returns-clause-after : goal.returns-clause-after
-returns-clause-after c = λ history line e. parts history line (restarted_history history line) (open_restarted history line e)
+returns-clause-after c = λ history line e. parts history line (restarted_history history line)
+    (open_restarted history line e)
 
 pub returns-clause-held : goal.returns-clause-held
-returns-clause-held c = λ history line e. transit_sent history line (restarted_history history line) (open_restarted history line e)
+returns-clause-held c = λ history line e. transit_sent history line (restarted_history history line)
+    (open_restarted history line e)

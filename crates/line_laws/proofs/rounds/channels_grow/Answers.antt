@@ -1,5 +1,6 @@
 -- The law, by its lemmas.
-use Rattle.line_laws.proofs.GrowthLemmas.{has_check_push, channel_opened, has_mark_push, channel_push}
+use Rattle.line_laws.proofs.GrowthLemmas.{has_check_push, channel_opened, has_mark_push}
+use Rattle.line_laws.proofs.GrowthLemmas.{channel_push}
 use Rattle.line_laws.proofs.rounds.channels_grow.Goals as goal
 
 pub returns-clause-check : goal.returns-clause-check

@@ -1,5 +1,6 @@
 -- The law, by what each tape has before and after its check.
-use Rattle.line_laws.proofs.RoundLines.{completed_checked, round_is_line, round_consistent, marker_snapshot}
+use Rattle.line_laws.proofs.RoundLines.{completed_checked, round_is_line, round_consistent}
+use Rattle.line_laws.proofs.RoundLines.{marker_snapshot}
 use Rattle.line_laws.proofs.rounds.marker_round_holds.Goals as goal
 
 pub returns-clause-checked : goal.returns-clause-checked

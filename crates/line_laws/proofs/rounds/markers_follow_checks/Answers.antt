@@ -1,5 +1,7 @@
 -- The law, by its lemmas.
-use Rattle.line_laws.proofs.CompletionLemmas.{contains_round, marker_checked, check_of_push, check_of_new, no_check_restarted, no_rounds_restarted, no_marker_restarted}
+use Rattle.line_laws.proofs.CompletionLemmas.{contains_round, marker_checked, check_of_push}
+use Rattle.line_laws.proofs.CompletionLemmas.{check_of_new, no_check_restarted, no_rounds_restarted}
+use Rattle.line_laws.proofs.CompletionLemmas.{no_marker_restarted}
 use Rattle.line_laws.proofs.NextLemmas.{check_in}
 use Rattle.line_laws.proofs.rounds.markers_follow_checks.Goals as goal
 

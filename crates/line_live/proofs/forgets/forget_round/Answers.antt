@@ -9,7 +9,8 @@ use Rattle.line_live.proofs.forgets.forget_round.Goals as goal
 pub cut_world-requires-clause-fifo : goal.cut_world-requires-clause-fifo
 cut_world-requires-clause-fifo c =
     let machine : Machine = c.args.world.now in
-    (idle_cases machine.mode (is_open machine) (round_refusal machine (listed_of machine.rounds c.args.number)) c.in_ok-floor.ensures.done).0
+    (idle_cases machine.mode (is_open machine) (round_refusal machine
+    (listed_of machine.rounds c.args.number)) c.in_ok-floor.ensures.done).0
 
 pub cut_world-requires-clause-last : goal.cut_world-requires-clause-last
 cut_world-requires-clause-last c = ap (λ (f : Floor). f.round) c.in_ok-floor.ensures.floor.at.value

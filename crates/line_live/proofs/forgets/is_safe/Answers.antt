@@ -20,14 +20,19 @@ returns-then-not-survives c =
     let q : ℕ = c.each.q in
     let p : ℕ = c.unwrap-p.result in
     let at : p ≡ q = (rw c.unwrap-p.ensures at c.try_new.ensures).1 in
-    let size : length c.catalogue-catalogue.result.now.processes ≡ length machine.history = ap (λ (h : List Process). length h) c.catalogue-catalogue.ensures.processes in
-    let f : ℕ → Bool = λ (v : ℕ). survives machine.history machine.marks [] v (AtCheck (check_in round v)) in
+    let size : length c.catalogue-catalogue.result.now.processes ≡ length machine.history = ap
+    (λ (h : List Process). length h) c.catalogue-catalogue.ensures.processes in
+    let f : ℕ → Bool = λ (v : ℕ). survives machine.history machine.marks [] v
+    (AtCheck (check_in round v)) in
     sym (false_from_ne_true (is_safe machine round) (λ t.
-    let here : f q ≡ true = in_range f 0 (length machine.history) q t (omega arith) (omega (arith, c.each-test.true, c.n-n.ensures.value, size)) in
+    let here : f q ≡ true = in_range f 0 (length machine.history) q t (omega arith)
+    (omega (arith, c.each-test.true, c.n-n.ensures.value, size)) in
     both_ways c.survives.result c.if-not-survives.true (
     c.survives.ensures
-    ∙ ap (λ (h : List Process). survives h c.catalogue-catalogue.result.now.marks c.empty-nobody.result p (AtCheck c.check.result)) c.catalogue-catalogue.ensures.processes
-    ∙ ap (λ (m : MarksView). survives machine.history m c.empty-nobody.result p (AtCheck c.check.result)) c.catalogue-catalogue.ensures.marks
+    ∙ ap (λ (h : List Process). survives h c.catalogue-catalogue.result.now.marks
+    c.empty-nobody.result p (AtCheck c.check.result)) c.catalogue-catalogue.ensures.processes
+    ∙ ap (λ (m : MarksView). survives machine.history m c.empty-nobody.result p
+    (AtCheck c.check.result)) c.catalogue-catalogue.ensures.marks
     ∙ whoever machine.history machine.marks c.empty-nobody.result p c.check.result
     ∙ ap (λ (k : ℕ). survives machine.history machine.marks [] p (AtCheck k)) c.check.ensures
     ∙ ap f at ∙ here)))
@@ -36,6 +41,9 @@ pub returns : goal.returns
 returns c =
     let machine : Machine = c.args.world.now in
     let round : ListedRound = c.args.round.now in
-    let size : length c.catalogue-catalogue.result.now.processes ≡ length machine.history = ap (λ (h : List Process). length h) c.catalogue-catalogue.ensures.processes in
-    sym (all_range (λ (v : ℕ). survives machine.history machine.marks [] v (AtCheck (check_in round v))) 0 (length machine.history)
-    (λ v low high. c.each.invariant v (omega (arith, high, c.each-test.false, c.n-n.ensures.value, size))))
+    let size : length c.catalogue-catalogue.result.now.processes ≡ length machine.history = ap
+    (λ (h : List Process). length h) c.catalogue-catalogue.ensures.processes in
+    sym (all_range (λ (v : ℕ). survives machine.history machine.marks [] v
+    (AtCheck (check_in round v))) 0 (length machine.history)
+    (λ v low high. c.each.invariant v
+    (omega (arith, high, c.each-test.false, c.n-n.ensures.value, size))))

@@ -5,4 +5,5 @@ use Rattle.line_moves.specs.Listed.{check_in}
 use Rattle.line_live.proofs.forgets.is_safe.Given as goal
 
 abbrev pub invariant-each : goal.invariant-each
-invariant-each l = (v : ℕ) → v < l.q → survives l.world.history l.world.marks [] v (AtCheck (check_in l.round v)) ≡ true
+invariant-each l = (v : ℕ) → v < l.q
+    → survives l.world.history l.world.marks [] v (AtCheck (check_in l.round v)) ≡ true

@@ -11,7 +11,9 @@ returns-in-Some-clause-floor c =
     let machine : Machine = c.args.world.now in
     let round : ListedRound = c.index-rounds-i.result in
     let listed : listed_of machine.rounds c.args.number ≡ Some round =
-    ap (λ (rounds : List ListedRound). listed_of rounds c.args.number) (sym c.rounds-rounds.ensures.value)
+    ap (λ (rounds : List ListedRound). listed_of rounds c.args.number)
+    (sym c.rounds-rounds.ensures.value)
     ∙ c.in-Some.ensures.1 round ∙ ap (λ (r : ListedRound). Some r) (sym c.index-rounds-i.is) in
-    IfOk-weaker c.surviving_floor.result (IsFloorAt machine round) (IsFloorOfRound machine c.args.number)
+    IfOk-weaker c.surviving_floor.result (IsFloorAt machine round)
+    (IsFloorOfRound machine c.args.number)
     (λ floor at. record { round = round; listed = listed; at = at }) c.surviving_floor.ensures.floor

@@ -12,6 +12,7 @@ returns-clause-floor c =
     let round : ListedRound = c.args.round.now in record {
       value = c.in_ok-floor.ensures.value;
       is = c.in_ok-floor.ensures.floor;
-      stays = subst (λ (floor : Floor). FloorSurvives machine.history machine.marks floor) (sym c.in_ok-floor.ensures.value)
+      stays = subst (λ (floor : Floor). FloorSurvives machine.history machine.marks floor)
+          (sym c.in_ok-floor.ensures.value)
           (safe_floor machine round (sym c.is_safe.ensures ∙ c.if-not-is_safe.false));
     }

@@ -6,4 +6,5 @@ use Rattle.line_live.specs.Resumed.{kept_floor}
 use Rattle.line_live.proofs.held.does_survive.Given as goal
 
 abbrev pub invariant-each : goal.invariant-each
-invariant-each l = (p : ℕ) → p < l.q → survives l.catalogue.processes l.catalogue.marks [] p (AtCheck (floor_check (kept_floor l.floor) p)) ≡ true
+invariant-each l = (p : ℕ) → p < l.q → survives l.catalogue.processes l.catalogue.marks [] p
+    (AtCheck (floor_check (kept_floor l.floor) p)) ≡ true

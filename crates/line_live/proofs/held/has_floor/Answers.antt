@@ -1,4 +1,5 @@
--- The line of the checks that processes begin with is one, and they survive: whether it is consistent
+-- The line of the checks that processes begin with is one, and they survive: whether it is
+-- consistent
 -- is whether what is kept has the floor.
 use Rattle.std.proofs.Common.{◌↔◌, IsTrue, Bool, List}
 use Rattle.std.proofs.lemmas.Result.{IfOk-weaker}
@@ -17,7 +18,10 @@ returns c =
     let marks : MarksView = c.args.catalogue.now.marks in
     let floor : Floor = c.args.floor.now in
     let line : List Choice = c.kept_line-line.result in
-    IfOk-weaker c.is_consistent_at.result (λ (b : Bool). IsTrue b ↔ IsConsistent history line) (λ (b : Bool). IsTrue b ↔ HasFloor history marks floor)
-    (λ b both. held_where floor history c.history.result.now.processes marks line c.history.ensures.processes c.kept_line-line.ensures (c.is_line.ensures.0 c.if-not-is_line.false)
+    IfOk-weaker c.is_consistent_at.result (λ (b : Bool). IsTrue b ↔ IsConsistent history line)
+    (λ (b : Bool). IsTrue b ↔ HasFloor history marks floor)
+    (λ b both. held_where floor history c.history.result.now.processes marks line
+    c.history.ensures.processes c.kept_line-line.ensures
+    (c.is_line.ensures.0 c.if-not-is_line.false)
     (c.does_survive.ensures.0 c.if-not-does_survive.false) b both)
     c.is_consistent_at.ensures

@@ -15,7 +15,8 @@ push-requires c =
     let floor : Floor = c.args.floor.now in
     let f : ℕ → ℕ = λ (p : ℕ). floor_check floor p - lost_checks floor p in
     let count : length c.loop-q.line ≡ c.loop-q.q =
-    ap (λ (line : List Choice). length line) c.loop-q.invariant ∙ length-map (map f (range_with_len 0 c.loop-q.q)) (λ k. AtCheck k) ∙ length-map-range_with_len f 0 c.loop-q.q in
+    ap (λ (line : List Choice). length line) c.loop-q.invariant ∙ length-map (map f (range_with_len
+    0 c.loop-q.q)) (λ k. AtCheck k) ∙ length-map-range_with_len f 0 c.loop-q.q in
     omega (arith, count, c.loop-q-test.true, c.requires.few)
 
 pub loop-q-preserved : goal.loop-q-preserved
@@ -23,8 +24,10 @@ loop-q-preserved c =
     let floor : Floor = c.args.floor.now in
     let f : ℕ → ℕ = λ (p : ℕ). floor_check floor p - lost_checks floor p in
     let at : c.unwrap-p.result ≡ c.loop-q.q = (rw c.unwrap-p.ensures at c.try_new.ensures).1 in
-    let here : c.first_check.result ≡ f c.loop-q.q = c.first_check.ensures ∙ first_at floor c.unwrap-p.result ∙ ap f at in
+    let here : c.first_check.result
+    ≡ f c.loop-q.q = c.first_check.ensures ∙ first_at floor c.unwrap-p.result ∙ ap f at in
     c.push.ensures
     ∙ ap (λ (line : List Choice). line ++ AtCheck c.first_check.result ∷ []) c.loop-q.invariant
     ∙ ap (λ (k : ℕ). check_line (map f (range_with_len 0 c.loop-q.q)) ++ AtCheck k ∷ []) here
-    ∙ sym (ap check_line (map-range_with_len_more f 0 c.loop-q.q c.loop-q.q (omega arith)) ∙ map-append (λ k. AtCheck k) (map f (range_with_len 0 c.loop-q.q)) (f c.loop-q.q ∷ []))
+    ∙ sym (ap check_line (map-range_with_len_more f 0 c.loop-q.q c.loop-q.q (omega arith)) ∙
+    map-append (λ k. AtCheck k) (map f (range_with_len 0 c.loop-q.q)) (f c.loop-q.q ∷ []))

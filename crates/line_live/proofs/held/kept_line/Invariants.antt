@@ -5,4 +5,5 @@ use Rattle.line_cuts.specs.Cuts.{floor_check, lost_checks}
 use Rattle.line_live.proofs.held.kept_line.Given as goal
 
 abbrev pub invariant-loop-q : goal.invariant-loop-q
-invariant-loop-q l = l.line ≡ check_line (map (λ p. floor_check l.floor p - lost_checks l.floor p) (range_with_len 0 l.q))
+invariant-loop-q l = l.line
+    ≡ check_line (map (λ p. floor_check l.floor p - lost_checks l.floor p) (range_with_len 0 l.q))

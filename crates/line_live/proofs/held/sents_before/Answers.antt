@@ -11,6 +11,8 @@ pub returns : goal.returns
 returns c =
     let history : List Process = c.args.catalogue.now.processes in
     let line : List Choice = c.args.line.now in
-    ext_get_or 0 c.loop-q.sent (sents_of history line) (c.loop-q.invariant.count ∙ sym (length-sents history line)) (λ p h.
+    ext_get_or 0 c.loop-q.sent (sents_of history line)
+    (c.loop-q.invariant.count ∙ sym (length-sents history line)) (λ p h.
     let within : p < length history = omega (arith, h, c.loop-q.invariant.count) in
-    c.loop-q.invariant.each p (omega (arith, within, c.loop-q-test.false, c.n-n.ensures.value)) ∙ sym (sents-at history line p 0 within))
+    c.loop-q.invariant.each p (omega (arith, within, c.loop-q-test.false, c.n-n.ensures.value)) ∙
+    sym (sents-at history line p 0 within))

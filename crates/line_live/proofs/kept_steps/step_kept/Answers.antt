@@ -18,8 +18,11 @@ use Rattle.line_live.proofs.kept_steps.step_kept.Goals as goal
 pub whole_reply-requires-clause-few : goal.whole_reply-requires-clause-few
 whole_reply-requires-clause-few c =
     let old : Machine = c.args.world.now in
-    let limits : IsHistory old.history = subst IsHistory c.history-history.ensures.value c.n-n.ensures.limits in
-    reply_few old limits c.requires.fifo c.history-history.ensures.fit (step_of_ref c.in-Ok.cut) c.in-Ok-step_lent.reply c.step_lent.new.self c.in-Ok-step_lent.ensures.done.0 c.in-Ok-step_lent.ensures.done.1
+    let limits : IsHistory old.history = subst IsHistory c.history-history.ensures.value
+    c.n-n.ensures.limits in
+    reply_few old limits c.requires.fifo c.history-history.ensures.fit
+    (step_of_ref c.in-Ok.cut) c.in-Ok-step_lent.reply c.step_lent.new.self
+    c.in-Ok-step_lent.ensures.done.0 c.in-Ok-step_lent.ensures.done.1
 
 pub returns-in-Ok-step_lent-clause-done : goal.returns-in-Ok-step_lent-clause-done
 returns-in-Ok-step_lent-clause-done c =
@@ -27,8 +30,12 @@ returns-in-Ok-step_lent-clause-done c =
     let new : Machine = c.step_lent.new.self in
     let floor : Floor = c.args.floor.now in
     let step : Step = step_of_ref c.args.step.now in
-    let takes : Takes old (cut_step floor step) (Done c.in-Ok-step_lent.reply) new = subst (λ (s : Step). Takes old s (Done c.in-Ok-step_lent.reply) new) c.in-Ok.ensures.step c.in-Ok-step_lent.ensures.done in
-    subst (λ (reply : Reply). TakesLive (living floor old) step (Done reply) (living floor new)) (sym c.whole_reply.ensures) (takes_cut floor old new step (Done c.in-Ok-step_lent.reply) c.in-Ok.ensures.spared takes)
+    let takes : Takes old (cut_step floor step) (Done c.in-Ok-step_lent.reply) new = subst
+    (λ (s : Step). Takes old s (Done c.in-Ok-step_lent.reply) new) c.in-Ok.ensures.step
+    c.in-Ok-step_lent.ensures.done in
+    subst (λ (reply : Reply). TakesLive (living floor old) step (Done reply) (living floor new))
+    (sym c.whole_reply.ensures)
+    (takes_cut floor old new step (Done c.in-Ok-step_lent.reply) c.in-Ok.ensures.spared takes)
 
 pub returns-in-Err-step_lent-clause-refused : goal.returns-in-Err-step_lent-clause-refused
 returns-in-Err-step_lent-clause-refused c = λ other.
@@ -36,11 +43,17 @@ returns-in-Err-step_lent-clause-refused c = λ other.
     let new : Machine = c.step_lent.new.self in
     let floor : Floor = c.args.floor.now in
     let step : Step = step_of_ref c.args.step.now in
-    let takes : Takes old (cut_step floor step) (Refused c.in-Err-step_lent.refusal) new = subst (λ (s : Step). Takes old s (Refused c.in-Err-step_lent.refusal) new) c.in-Ok.ensures.step (c.in-Err-step_lent.ensures.refused other) in
+    let takes : Takes old (cut_step floor step) (Refused c.in-Err-step_lent.refusal) new = subst
+    (λ (s : Step). Takes old s (Refused c.in-Err-step_lent.refusal) new) c.in-Ok.ensures.step
+    (c.in-Err-step_lent.ensures.refused other) in
     takes_cut floor old new step (Refused c.in-Err-step_lent.refusal) c.in-Ok.ensures.spared takes
 
 pub returns-in-Ok-step_lent-clause-count : goal.returns-in-Ok-step_lent-clause-count
-returns-in-Ok-step_lent-clause-count c = step_long c.args.world.now (step_of_ref c.in-Ok.cut) c.step_lent.result c.step_lent.new.self c.step_lent.ensures.done c.step_lent.ensures.refused c.step_lent.ensures.memory
+returns-in-Ok-step_lent-clause-count c = step_long c.args.world.now
+    (step_of_ref c.in-Ok.cut) c.step_lent.result c.step_lent.new.self c.step_lent.ensures.done
+    c.step_lent.ensures.refused c.step_lent.ensures.memory
 
 pub returns-in-Err-step_lent-clause-count : goal.returns-in-Err-step_lent-clause-count
-returns-in-Err-step_lent-clause-count c = step_long c.args.world.now (step_of_ref c.in-Ok.cut) c.step_lent.result c.step_lent.new.self c.step_lent.ensures.done c.step_lent.ensures.refused c.step_lent.ensures.memory
+returns-in-Err-step_lent-clause-count c = step_long c.args.world.now
+    (step_of_ref c.in-Ok.cut) c.step_lent.result c.step_lent.new.self c.step_lent.ensures.done
+    c.step_lent.ensures.refused c.step_lent.ensures.memory

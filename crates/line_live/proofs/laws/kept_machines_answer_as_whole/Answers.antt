@@ -3,4 +3,5 @@ use Rattle.line_live.proofs.AlikeLemmas.{kept_alike}
 use Rattle.line_live.proofs.laws.kept_machines_answer_as_whole.Goals as goal
 
 pub returns : goal.returns
-returns c floor whole kept new step answer beside spares same takes = kept_alike floor whole kept new step answer beside spares same takes
+returns c floor whole kept new step answer beside spares same takes =
+    kept_alike floor whole kept new step answer beside spares same takes

@@ -3,4 +3,5 @@ use Rattle.line_live.proofs.WholeLives.{told_by_whole}
 use Rattle.line_live.proofs.life_laws.live_steps_answer_as_whole.Goals as goal
 
 pub returns : goal.returns
-returns c live new whole step answer left none is = told_by_whole live new whole step answer left none is
+returns c live new whole step answer left none is =
+    told_by_whole live new whole step answer left none is

@@ -1,4 +1,5 @@
--- The law of a life, thing by thing; and a step is one that is answered, or refused for what was let
+-- The law of a life, thing by thing; and a step is one that is answered, or refused for what was
+-- let
 -- go.
 use Rattle.line_live.proofs.WholeLives.{life_of_whole, lived_step}
 use Rattle.line_live.proofs.life_laws.lives_answer_as_whole.Goals as goal

@@ -22,12 +22,18 @@ returns c =
     let history : List Process = c.args.catalogue.now.processes in
     let line : List Choice = c.line_of_checks-line.result in
     let shared : List (List (List MsgName)) = c.in_ok-shared.shared in
-    let left : ℕ → List ℕ = λ (n : ℕ). map (λ p. check_in round p - lost_checks floor p) (range_with_len 0 n) in
-    let indices : c.in_ok-checks.checks.items ≡ left (length round.checks) = c.in_ok-checks.ensures ∙ ap left (c.n.ensures.value ∙ sym c.requires.count) in
-    let count : length c.in_ok-checks.checks.items ≡ length round.checks = ap (λ (xs : List ℕ). length xs) indices ∙ length-map-range_with_len (λ p. check_in round p - lost_checks floor p) 0 (length round.checks) in
-    let line_is : line ≡ check_line (left (length round.checks)) = c.line_of_checks-line.ensures ∙ ap check_line (c.deref.ensures.value ∙ indices) in
+    let left : ℕ → List ℕ = λ (n : ℕ). map (λ p. check_in round p - lost_checks floor p)
+    (range_with_len 0 n) in
+    let indices : c.in_ok-checks.checks.items ≡ left (length round.checks) = c.in_ok-checks.ensures
+    ∙ ap left (c.n.ensures.value ∙ sym c.requires.count) in
+    let count : length c.in_ok-checks.checks.items
+    ≡ length round.checks = ap (λ (xs : List ℕ). length xs) indices ∙ length-map-range_with_len
+    (λ p. check_in round p - lost_checks floor p) 0 (length round.checks) in
+    let line_is : line ≡ check_line (left (length round.checks)) = c.line_of_checks-line.ensures ∙
+    ap check_line (c.deref.ensures.value ∙ indices) in
     let transit : c.deref-2.result.now ≡ in_transit c.history.result.now.processes line =
-    c.deref-2.ensures.value ∙ c.in_ok-messages.ensures ∙ ap (λ (h : List Process). in_transit h line) (sym c.history.ensures.processes) in
+    c.deref-2.ensures.value ∙ c.in_ok-messages.ensures ∙ ap
+    (λ (h : List Process). in_transit h line) (sym c.history.ensures.processes) in
     let table : shared ≡ channels_at history (check_line (left (length round.checks))) =
     c.in_ok-shared.ensures ∙ c.in_ok-channels.ensures.transit line transit
     ∙ ap (λ (h : List Process). channels_at h line) c.history.ensures.processes
@@ -37,4 +43,5 @@ returns c =
     (c.of_channels.ensures.checks ∙ indices)
     (c.of_channels.ensures.channels
     ∙ ap (λ (n : ℕ). channel_table n (between shared)) count
-    ∙ channels_left floor round c.checks-checks.ensures.channels history c.requires.count c.requires.snapshot shared table)
+    ∙ channels_left floor round c.checks-checks.ensures.channels history c.requires.count
+    c.requires.snapshot shared table)

@@ -7,7 +7,8 @@ pub returns : goal.returns
 returns c = (
   λ _. record {
     begun = λ k d within. c.each.invariant.begun k d (omega (arith, within, c.each-test.false));
-    ascending = rising c.args.rounds.now (λ k d within. c.each.invariant.next k d (omega (arith, within, c.each-test.false)));
+    ascending = rising c.args.rounds.now
+        (λ k d within. c.each.invariant.next k d (omega (arith, within, c.each-test.false)));
   },
   λ _. refl,
 )

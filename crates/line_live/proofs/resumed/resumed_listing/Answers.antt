@@ -12,11 +12,18 @@ loop-round-preserved c =
     let rounds : List CheckedRound = c.args.rounds.now in
     let here : CheckedRound = c.round-item.result in
     let i : ℕ = c.loop-round.round-index in
-    let same : c.loop-round.catalogue.processes ≡ history = ap (λ v. v.processes) c.loop-round.invariant.same in
-    let is : IsConsistentRound history here = subst (λ (h : List Process). IsConsistentRound h here) same (c.in_ok-consistent.ensures.0 c.if-not-consistent.false) in
-    let listed : c.in_ok-listed.listed ≡ resumed_round history here = c.in_ok-listed.ensures.round ∙ ap (λ (h : List Process). resumed_round h here) same in
+    let same : c.loop-round.catalogue.processes
+    ≡ history = ap (λ v. v.processes) c.loop-round.invariant.same in
+    let is : IsConsistentRound history here = subst (λ (h : List Process). IsConsistentRound h here)
+    same (c.in_ok-consistent.ensures.0 c.if-not-consistent.false) in
+    let listed : c.in_ok-listed.listed ≡ resumed_round history here = c.in_ok-listed.ensures.round ∙
+    ap (λ (h : List Process). resumed_round h here) same in
     record {
       same = c.in_ok-listed.ensures.same ∙ c.loop-round.invariant.same;
-      rounds = listed_more history rounds i here c.in_ok-listed.listed c.reserve.new.self.items c.push.new.self.items (omega (arith, c.loop-round-test.true)) c.round-item.is listed (c.reserve.ensures.items ∙ c.loop-round.invariant.rounds) c.push.ensures;
-      consistent = All-more (IsConsistentRound history) rounds i here (omega (arith, c.loop-round-test.true)) c.loop-round.invariant.consistent (subst (IsConsistentRound history) c.round-item.is is);
+      rounds = listed_more history rounds i here c.in_ok-listed.listed c.reserve.new.self.items
+          c.push.new.self.items (omega (arith, c.loop-round-test.true)) c.round-item.is listed
+          (c.reserve.ensures.items ∙ c.loop-round.invariant.rounds) c.push.ensures;
+      consistent = All-more (IsConsistentRound history) rounds i here
+          (omega (arith, c.loop-round-test.true)) c.loop-round.invariant.consistent
+          (subst (IsConsistentRound history) c.round-item.is is);
     }

@@ -20,11 +20,15 @@ returns-clause-round c =
     let line : List Choice = c.line_of_checks-line.result in
     let shared : List (List (List MsgName)) = c.in_ok-shared.shared in
     let checks : List ℕ = c.in_ok-checks.checks.items in
-    let indices : checks ≡ round.checks = c.in_ok-checks.ensures.items ∙ c.deref.ensures.value ∙ ap (λ (r : CheckedRound). r.checks) c.round.view_is in
-    let count : length checks ≡ length history = ap (λ (xs : List ℕ). length xs) indices ∙ sym (length-map round.checks (λ i. AtCheck i)) ∙ c.requires.length_is in
-    let line_is : line ≡ check_line round.checks = c.line_of_checks-line.ensures ∙ ap check_line (c.deref-2.ensures.value ∙ indices) in
+    let indices : checks ≡ round.checks = c.in_ok-checks.ensures.items ∙ c.deref.ensures.value ∙ ap
+    (λ (r : CheckedRound). r.checks) c.round.view_is in
+    let count : length checks ≡ length history = ap (λ (xs : List ℕ). length xs) indices ∙ sym
+    (length-map round.checks (λ i. AtCheck i)) ∙ c.requires.length_is in
+    let line_is : line ≡ check_line round.checks = c.line_of_checks-line.ensures ∙ ap check_line
+    (c.deref-2.ensures.value ∙ indices) in
     let transit : c.deref-3.result.now ≡ in_transit c.history.result.now.processes line =
-    c.deref-3.ensures.value ∙ c.in_ok-messages.ensures ∙ ap (λ (h : List Process). in_transit h line) (sym c.history.ensures.processes) in
+    c.deref-3.ensures.value ∙ c.in_ok-messages.ensures ∙ ap
+    (λ (h : List Process). in_transit h line) (sym c.history.ensures.processes) in
     let table : shared ≡ channels_at history (check_line round.checks) =
     c.in_ok-shared.ensures ∙ c.in_ok-channels.ensures.transit line transit
     ∙ ap (λ (h : List Process). channels_at h line) c.history.ensures.processes
@@ -32,4 +36,5 @@ returns-clause-round c =
     same_round c.of_channels.result (resumed_round history round)
     (c.of_channels.ensures.number ∙ ap (λ (r : CheckedRound). r.number) c.round.view_is)
     (c.of_channels.ensures.checks ∙ indices)
-    (c.of_channels.ensures.channels ∙ table_counted history (check_line round.checks) (length checks) shared count table)
+    (c.of_channels.ensures.channels ∙ table_counted history (check_line round.checks)
+    (length checks) shared count table)

@@ -10,13 +10,23 @@ loop-i-init c = mapped_start (whole_entry c.args.floor.now) c.args.entries.now
 
 pub whole_entry-entry-requires-clause-few : goal.whole_entry-entry-requires-clause-few
 whole_entry-entry-requires-clause-few c =
-    let within : c.loop-i.i < length c.args.entries.now.items = omega (arith, c.loop-i-test.true, c.args.entries.now.ok.0, c.len-i-end.ensures) in
-    subst IsFewEntry (sym (mapped_read (whole_entry c.args.floor.now) c.args.entries.now c.loop-i.i c.loop-i.entries c.index.result.now c.index.result.now c.loop-i.invariant within c.index.ensures)) (c.requires.few c.loop-i.i c.index.result.now within)
+    let within : c.loop-i.i < length c.args.entries.now.items = omega
+    (arith, c.loop-i-test.true, c.args.entries.now.ok.0, c.len-i-end.ensures) in
+    subst IsFewEntry
+    (sym (mapped_read
+    (whole_entry c.args.floor.now) c.args.entries.now c.loop-i.i c.loop-i.entries
+    c.index.result.now c.index.result.now c.loop-i.invariant within c.index.ensures))
+    (c.requires.few c.loop-i.i c.index.result.now within)
 
 pub loop-i-preserved : goal.loop-i-preserved
 loop-i-preserved c =
-    let within : c.loop-i.i < length c.args.entries.now.items = omega (arith, c.loop-i-test.true, c.args.entries.now.ok.0, c.len-i-end.ensures) in
-    mapped_next (whole_entry c.args.floor.now) c.args.entries.now c.loop-i.i c.loop-i.entries c.index.result.now c.index.result.now c.whole_entry-entry.result c.loop-i.invariant within c.index.ensures c.whole_entry-entry.ensures
+    let within : c.loop-i.i < length c.args.entries.now.items = omega
+    (arith, c.loop-i-test.true, c.args.entries.now.ok.0, c.len-i-end.ensures) in
+    mapped_next (whole_entry c.args.floor.now) c.args.entries.now c.loop-i.i c.loop-i.entries
+    c.index.result.now c.index.result.now c.whole_entry-entry.result c.loop-i.invariant within
+    c.index.ensures c.whole_entry-entry.ensures
 
 pub returns : goal.returns
-returns c = mapped_end (whole_entry c.args.floor.now) c.args.entries.now c.loop-i.i c.loop-i.entries c.loop-i.invariant (omega (arith, c.loop-i-test.false, c.args.entries.now.ok.0, c.len-i-end.ensures))
+returns c = mapped_end
+    (whole_entry c.args.floor.now) c.args.entries.now c.loop-i.i c.loop-i.entries c.loop-i.invariant
+    (omega (arith, c.loop-i-test.false, c.args.entries.now.ok.0, c.len-i-end.ensures))

@@ -10,6 +10,21 @@ pub returns : goal.returns
 returns c =
     let floor : Floor = c.args.floor.now in
     let old : Plan = c.args.plan.now in
-    ap (λ (line : List Choice). let p : Plan = record old { line = line; certificate = c.bring_entries.new.entries; replays = c.bring_names.new.names } in p) c.bring_line.ensures
-    ∙ ap (λ entries. let p : Plan = record old { line = whole_line floor old.line; certificate = entries; replays = c.bring_names.new.names } in p) c.bring_entries.ensures
-    ∙ ap (λ names. let p : Plan = record old { line = whole_line floor old.line; certificate = mapped_in_place (whole_entry floor) old.certificate; replays = names } in p) c.bring_names.ensures
+    ap (λ (line : List Choice). let p : Plan = record old {
+      line = line;
+      certificate =
+          c.bring_entries.new.entries;
+      replays = c.bring_names.new.names;
+    } in p) c.bring_line.ensures
+    ∙ ap (λ entries. let p : Plan = record old {
+      line = whole_line floor old.line;
+      certificate =
+          entries;
+      replays = c.bring_names.new.names;
+    } in p) c.bring_entries.ensures
+    ∙ ap (λ names. let p : Plan = record old {
+      line = whole_line floor old.line;
+      certificate = mapped_in_place
+          (whole_entry floor) old.certificate;
+      replays = names;
+    } in p) c.bring_names.ensures

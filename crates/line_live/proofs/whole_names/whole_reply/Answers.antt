@@ -9,6 +9,8 @@ use Rattle.line_live.proofs.whole_names.whole_reply.Goals as goal
 pub returns-in-Recovered : goal.returns-in-Recovered
 returns-in-Recovered c =
     let floor : Floor = c.args.floor.now in
-    let value : c.bring_plan.new.plan ≡ whole_plan floor c.in-Recovered.plan.value = c.bring_plan.ensures ∙ ap (whole_plan floor) c.deref_mut.ensures.value in
-    ap (λ (v : Plan). Recovered (record c.in-Recovered.plan { value = v }) c.in-Recovered.states c.in-Recovered.incarnations) value
+    let value : c.bring_plan.new.plan ≡ whole_plan floor c.in-Recovered.plan.value =
+    c.bring_plan.ensures ∙ ap (whole_plan floor) c.deref_mut.ensures.value in
+    ap (λ (v : Plan). Recovered (record c.in-Recovered.plan { value = v }) c.in-Recovered.states
+    c.in-Recovered.incarnations) value
     ∙ ap (whole_reply floor) (sym c.in-Recovered.is)

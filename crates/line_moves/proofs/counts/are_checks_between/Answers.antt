@@ -13,11 +13,14 @@ use Rattle.line_moves.proofs.counts.are_checks_between.Goals as goal
 use Rattle.line_moves.proofs.counts.are_checks_between.Goals.{in-Check, in-Now, Joined-choice}
 
 -- a check has as many before it as its index says, and itself
-counted : (c : Joined-choice) → c.match-choice.checks ≡ checks (front c.args.tape.now.events c.args.choice)
+counted : (c : Joined-choice)
+    → c.match-choice.checks ≡ checks (front c.args.tape.now.events c.args.choice)
 counted c = elim c.match-choice.branch [
-  | in-Check w ↦ w.checks-is ∙ sym (checks_front c.args.tape.now.events w.in-Check.check (subst (HasChoice c.args.tape.now.events) w.in-Check.is c.requires.choice))
+  | in-Check w ↦ w.checks-is ∙ sym (checks_front c.args.tape.now.events w.in-Check.check
+      (subst (HasChoice c.args.tape.now.events) w.in-Check.is c.requires.choice))
       ∙ ap (λ (choice : Choice). checks (front c.args.tape.now.events choice)) (sym w.in-Check.is)
-  | in-Now w ↦ w.checks-is ∙ w.checks-checks.ensures.value ∙ ap checks (sym (take_all (length c.args.tape.now.events) c.args.tape.now.events (omega arith)))
+  | in-Now w ↦ w.checks-is ∙ w.checks-checks.ensures.value ∙ ap checks
+      (sym (take_all (length c.args.tape.now.events) c.args.tape.now.events (omega arith)))
       ∙ ap (λ (choice : Choice). checks (front c.args.tape.now.events choice)) (sym w.in-Now.is)
 ]
 
@@ -30,10 +33,21 @@ returns-then-before-after-clause-sent c = λ t p.
     let after : c.len-after.result ≡ length (front tape c.args.choice) =
     c.len-after.ensures ∙ ap (λ (es : List Event). length es) c.front-2.ensures
     in
-    let own : checks (front tape (AtCheck c.args.check)) ≡ c.args.check = checks_front tape c.args.check c.requires.check in
-    let same = eqb-true (c.len-after.result + c.args.check) (c.len-before.result + c.match-choice.checks) t in
-    same_sent p 0 tape (place tape (AtCheck c.args.check)) (place tape c.args.choice) (omega (arith, before, after, c.if-before-after.true))
-    (omega (arith, before, after, own, counted ((goal.at.returns-then-before-after-clause-sent c).Joined-choice), same))
+    let own : checks (front tape (AtCheck c.args.check))
+    ≡ c.args.check = checks_front tape c.args.check c.requires.check in
+    let same = eqb-true (c.len-after.result + c.args.check)
+    (c.len-before.result + c.match-choice.checks) t in
+    same_sent p 0 tape (place tape (AtCheck c.args.check)) (place tape c.args.choice)
+    (omega (arith, before, after, c.if-before-after.true))
+    (omega (
+      arith,
+      before,
+      after,
+      own,
+      counted
+          ((goal.at.returns-then-before-after-clause-sent c).Joined-choice),
+      same,
+    ))
 
 pub returns-then-before-after-clause-received : goal.returns-then-before-after-clause-received
 returns-then-before-after-clause-received c = λ t.
@@ -44,7 +58,18 @@ returns-then-before-after-clause-received c = λ t.
     let after : c.len-after.result ≡ length (front tape c.args.choice) =
     c.len-after.ensures ∙ ap (λ (es : List Event). length es) c.front-2.ensures
     in
-    let own : checks (front tape (AtCheck c.args.check)) ≡ c.args.check = checks_front tape c.args.check c.requires.check in
-    let same = eqb-true (c.len-after.result + c.args.check) (c.len-before.result + c.match-choice.checks) t in
-    same_received tape (place tape (AtCheck c.args.check)) (place tape c.args.choice) (omega (arith, before, after, c.if-before-after.true))
-    (omega (arith, before, after, own, counted ((goal.at.returns-then-before-after-clause-received c).Joined-choice), same))
+    let own : checks (front tape (AtCheck c.args.check))
+    ≡ c.args.check = checks_front tape c.args.check c.requires.check in
+    let same = eqb-true (c.len-after.result + c.args.check)
+    (c.len-before.result + c.match-choice.checks) t in
+    same_received tape (place tape (AtCheck c.args.check)) (place tape c.args.choice)
+    (omega (arith, before, after, c.if-before-after.true))
+    (omega (
+      arith,
+      before,
+      after,
+      own,
+      counted
+          ((goal.at.returns-then-before-after-clause-received c).Joined-choice),
+      same,
+    ))

@@ -31,10 +31,16 @@ each-preserved c = λ v within.
       | inr past ↦
           let same : c.unwrap-p.result ≡ v = at ∙ omega (arith, within, past) in
           let base : IsStill c.tape.result.now.events (AtCheck c.check.result) c.at.result =
-          record { sent = c.are_checks_between.ensures.sent c.if-not-are_checks_between.false; received = c.are_checks_between.ensures.received c.if-not-are_checks_between.false } in
-          still_as c.tape.result.now.events (tape_at history v) (AtCheck c.check.result) (choice_at (check_line indices) v) c.at.result (choice_at c.args.line.now v)
+          record {
+            sent = c.are_checks_between.ensures.sent c.if-not-are_checks_between.false;
+            received =
+                c.are_checks_between.ensures.received c.if-not-are_checks_between.false;
+          } in
+          still_as c.tape.result.now.events (tape_at history v) (AtCheck c.check.result)
+          (choice_at (check_line indices) v) c.at.result (choice_at c.args.line.now v)
           (c.tape.ensures.events ∙ ap (tape_at history) same)
-          (ap (λ k. AtCheck k) (c.check.ensures ∙ ap (λ k. get_or indices k 0) same) ∙ sym (choice_of_checks indices v))
+          (ap (λ k. AtCheck k) (c.check.ensures ∙ ap (λ k. get_or indices k 0) same) ∙ sym
+          (choice_of_checks indices v))
           (c.at.ensures ∙ ap (choice_at c.args.line.now) same)
           base
     ]

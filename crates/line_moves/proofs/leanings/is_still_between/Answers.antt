@@ -16,18 +16,22 @@ are_checks_between-requires-clause-check c =
     let history : List Process = c.args.history.now.processes in
     let indices : List ℕ = c.args.earlier.now.checks in
     let p : ℕ = c.unwrap-p.result in
-    subst (λ (t : List Event). HasChoice t (AtCheck c.check-before.result)) (sym c.tape.ensures.events)
+    subst (λ (t : List Event). HasChoice t (AtCheck c.check-before.result))
+    (sym c.tape.ensures.events)
     (subst (λ (k : ℕ). HasChoice (tape_at history p) (AtCheck k)) (sym c.check-before.ensures)
-    (subst (HasChoice (tape_at history p)) (choice_of_checks indices p) (c.requires.earlier.line.exist p)))
+    (subst (HasChoice (tape_at history p)) (choice_of_checks indices p)
+    (c.requires.earlier.line.exist p)))
 
 pub are_checks_between-requires-clause-choice : goal.are_checks_between-requires-clause-choice
 are_checks_between-requires-clause-choice c =
     let history : List Process = c.args.history.now.processes in
     let indices : List ℕ = c.args.later.now.checks in
     let p : ℕ = c.unwrap-p.result in
-    subst (λ (t : List Event). HasChoice t (AtCheck c.check-after.result)) (sym c.tape.ensures.events)
+    subst (λ (t : List Event). HasChoice t (AtCheck c.check-after.result))
+    (sym c.tape.ensures.events)
     (subst (λ (k : ℕ). HasChoice (tape_at history p) (AtCheck k)) (sym c.check-after.ensures)
-    (subst (HasChoice (tape_at history p)) (choice_of_checks indices p) (c.requires.later.line.exist p)))
+    (subst (HasChoice (tape_at history p)) (choice_of_checks indices p)
+    (c.requires.later.line.exist p)))
 
 pub each-preserved : goal.each-preserved
 each-preserved c = λ v within.
@@ -40,16 +44,26 @@ each-preserved c = λ v within.
       | inl below ↦ c.each.invariant v below
       | inr past ↦
           let same : c.unwrap-p.result ≡ v = at ∙ omega (arith, within, past) in
-          let base : IsStill c.tape.result.now.events (AtCheck c.check-before.result) (AtCheck c.check-after.result) =
-          record { sent = c.are_checks_between.ensures.sent c.if-not-are_checks_between.false; received = c.are_checks_between.ensures.received c.if-not-are_checks_between.false } in
-          still_as c.tape.result.now.events (tape_at history v) (AtCheck c.check-before.result) (choice_at (check_line indices) v) (AtCheck c.check-after.result) (choice_at (check_line others) v)
+          let base : IsStill c.tape.result.now.events (AtCheck c.check-before.result)
+          (AtCheck c.check-after.result) =
+          record {
+            sent = c.are_checks_between.ensures.sent c.if-not-are_checks_between.false;
+            received =
+                c.are_checks_between.ensures.received c.if-not-are_checks_between.false;
+          } in
+          still_as c.tape.result.now.events (tape_at history v) (AtCheck c.check-before.result)
+          (choice_at (check_line indices) v) (AtCheck c.check-after.result)
+          (choice_at (check_line others) v)
           (c.tape.ensures.events ∙ ap (tape_at history) same)
-          (ap (λ k. AtCheck k) (c.check-before.ensures ∙ ap (λ k. get_or indices k 0) same) ∙ sym (choice_of_checks indices v))
-          (ap (λ k. AtCheck k) (c.check-after.ensures ∙ ap (λ k. get_or others k 0) same) ∙ sym (choice_of_checks others v))
+          (ap (λ k. AtCheck k) (c.check-before.ensures ∙ ap (λ k. get_or indices k 0) same) ∙ sym
+          (choice_of_checks indices v))
+          (ap (λ k. AtCheck k) (c.check-after.ensures ∙ ap (λ k. get_or others k 0) same) ∙ sym
+          (choice_of_checks others v))
           base
     ]
 
 pub returns : goal.returns
 returns c = λ t.
-    still_transit c.args.history.now.processes (check_line c.args.earlier.now.checks) (check_line c.args.later.now.checks)
+    still_transit c.args.history.now.processes (check_line c.args.earlier.now.checks)
+    (check_line c.args.later.now.checks)
     (λ q within. c.each.invariant q (omega (arith, within, c.each-test.false, c.n-n.ensures.value)))

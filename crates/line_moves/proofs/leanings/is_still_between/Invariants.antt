@@ -6,4 +6,5 @@ use Rattle.line_moves.proofs.StillLemmas.{IsStill}
 use Rattle.line_moves.proofs.leanings.is_still_between.Given as goal
 
 abbrev pub invariant-each : goal.invariant-each
-invariant-each l = (k : ℕ) → k < l.q → IsStill (tape_at l.history.processes k) (choice_at (check_line l.earlier.checks) k) (choice_at (check_line l.later.checks) k)
+invariant-each l = (k : ℕ) → k < l.q → IsStill (tape_at l.history.processes k)
+    (choice_at (check_line l.earlier.checks) k) (choice_at (check_line l.later.checks) k)

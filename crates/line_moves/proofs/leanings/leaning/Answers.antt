@@ -11,7 +11,10 @@ use Rattle.line_moves.proofs.leanings.leaning.Goals as goal
 pub returns-in-Some-counted-clause-same : goal.returns-in-Some-counted-clause-same
 returns-in-Some-counted-clause-same c =
     IfOk-weaker c.lean_on.result
-    (λ (found : Option (List (List (List MsgName)))). IfSome found (λ t. t ≡ c.in-Some.channels.now))
-    (λ (found : Option (List (List (List MsgName)))). IfSome found (λ t. c.args.round.now.channels ≡ channel_table (length c.args.round.now.checks) (between t)))
-    (leaning_shown (length c.args.round.now.checks) c.args.round.now.channels c.in-Some.channels.now c.in-Some.ensures.shown)
+    (λ (found : Option (List (List (List MsgName)))). IfSome found
+    (λ t. t ≡ c.in-Some.channels.now))
+    (λ (found : Option (List (List (List MsgName)))). IfSome found (λ t. c.args.round.now.channels
+    ≡ channel_table (length c.args.round.now.checks) (between t)))
+    (leaning_shown (length c.args.round.now.checks) c.args.round.now.channels c.in-Some.channels.now
+    c.in-Some.ensures.shown)
     c.lean_on.ensures

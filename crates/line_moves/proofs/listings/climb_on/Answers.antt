@@ -10,4 +10,5 @@ returns c = λ t.
     let some : 0 < length c.args.rounds.now = search rules in
     let is : last ≡ get_or c.args.rounds.now (length c.args.rounds.now - 1) last = search rules in
     let climbs : c.args.climbs ≡ true = search rules in
-    Climb-push c.args.rounds.now last c.args.round.now some is (c.requires climbs) (c.is_below.ensures t)
+    Climb-push c.args.rounds.now last c.args.round.now some is (c.requires climbs)
+    (c.is_below.ensures t)

@@ -7,7 +7,8 @@ pub loop-q-preserved : goal.loop-q-preserved
 loop-q-preserved c =
     let at : c.unwrap-me.result ≡ c.loop-q.q = (rw c.unwrap-me.ensures at c.try_new.ensures).1 in
     subst (AreFresh c.args.n 0 (c.loop-q.q + 1)) (sym c.in_ok-push.ensures.items)
-    (AreFresh-more c.args.n 0 c.loop-q.q c.loop-q.markers.items c.new.result c.loop-q.invariant c.new.ensures.n (c.new.ensures.me ∙ at) c.new.ensures.floor c.new.ensures.rounds)
+    (AreFresh-more c.args.n 0 c.loop-q.q c.loop-q.markers.items c.new.result c.loop-q.invariant
+    c.new.ensures.n (c.new.ensures.me ∙ at) c.new.ensures.floor c.new.ensures.rounds)
 
 pub returns-clause-markers : goal.returns-clause-markers
 returns-clause-markers c =
@@ -20,4 +21,5 @@ returns-clause-markers c =
     }
 
 pub returns-clause-fresh : goal.returns-clause-fresh
-returns-clause-fresh c = λ q within. c.loop-q.invariant.fresh q (omega (arith, within, c.loop-q-test.false))
+returns-clause-fresh c =
+    λ q within. c.loop-q.invariant.fresh q (omega (arith, within, c.loop-q-test.false))

@@ -8,6 +8,7 @@ use Rattle.line_moves.proofs.restarts.put_messages.Given as goal
 abbrev pub invariant-loop-message : goal.invariant-loop-message
 invariant-loop-message l = record {
   queued : AreQueues l.history.processes (map items_held l.rows.items);
-  put : ArePut (λ m. Message m) l.history.processes (map items_held l.fn.rows.items) l.messages l.message-index (map items_held l.rows.items);
+  put : ArePut (λ m. Message m) l.history.processes
+      (map items_held l.fn.rows.items) l.messages l.message-index (map items_held l.rows.items);
   room : HaveRoom l.history.processes l.messages l.message-index l.rows.items;
 }

@@ -18,8 +18,10 @@ returns-clause-put c = λ p q p_within q_within.
     let goes : MsgName → Bool = goes_between history p q in
     let shown : List MsgName → List Item = λ ms. map (λ m. Message m) (filter goes ms) in
     let held : List (List (List Item)) → List Item = λ links. between links p q in
-    let same : map items_held c.count_messages.new.rows.items ≡ c.args.links.now = c.in_ok-count_messages.ensures.same ∙ c.count_none.ensures.same ∙ c.links.view_is in
+    let same : map items_held c.count_messages.new.rows.items ≡ c.args.links.now =
+    c.in_ok-count_messages.ensures.same ∙ c.count_none.ensures.same ∙ c.links.view_is in
     c.put_messages.ensures.put p q p_within q_within
     ∙ ap (λ (items : List Item). items ++ shown c.args.copies.now) (ap held same)
     ∙ ap (λ (ms : List MsgName). held c.args.links.now ++ shown ms) c.requires.transit
-    ∙ ap (λ (ms : List MsgName). held c.args.links.now ++ map (λ m. Message m) ms) (parts history line history (open_are history line) p q)
+    ∙ ap (λ (ms : List MsgName). held c.args.links.now ++ map (λ m. Message m) ms)
+    (parts history line history (open_are history line) p q)

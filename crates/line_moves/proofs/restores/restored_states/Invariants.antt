@@ -7,6 +7,7 @@ use Rattle.line_moves.proofs.restores.restored_states.Given as goal
 
 abbrev pub invariant-loop-q : goal.invariant-loop-q
 invariant-loop-q l =
-    (l.states.items ≡ map (λ p. restored_state (tape_at l.history.processes p) (choice_at l.line p)) (range_with_len 0 l.q))
+    (l.states.items ≡ map (λ p. restored_state (tape_at l.history.processes p) (choice_at l.line p))
+    (range_with_len 0 l.q))
     × (vec_len l.states ≡ l.q)
     × (vec_capacity l.states ≡ l.n)

@@ -18,17 +18,34 @@ use Rattle.line_moves.proofs.round_moves.force_round.Goals as goal
 
 pub append-requires-clause-agrees : goal.append-requires-clause-agrees
 append-requires-clause-agrees c =
-    AgreesNext-check c.reserve.new.self.processes c.history.ensures.agrees c.args.to (omega (arith, c.requires.to, ap (λ (h : List Process). length h) c.in_ok-reserve.ensures.processes)) c.of-state.result (Some c.number-number.result)
+    AgreesNext-check c.reserve.new.self.processes c.history.ensures.agrees c.args.to
+    (omega (
+      arith,
+      c.requires.to,
+      ap (λ (h : List Process). length h)
+          c.in_ok-reserve.ensures.processes,
+    )) c.of-state.result (Some c.number-number.result)
 
 pub append_mark-requires-clause-agrees : goal.append_mark-requires-clause-agrees
 append_mark-requires-clause-agrees c =
     let old : List Process = c.reserve.new.self.processes in
     let e : Event = Check c.of-state.result (Some c.number-number.result) in
-    let within : c.args.to < length old = omega (arith, c.requires.to, ap (λ (h : List Process). length h) c.in_ok-reserve.ensures.processes) in
+    let within : c.args.to < length old = omega (
+      arith,
+      c.requires.to,
+      ap
+          (λ (h : List Process). length h) c.in_ok-reserve.ensures.processes,
+    ) in
     let agrees : Agrees c.append.new.self.processes =
-    subst Agrees (sym c.append.ensures.processes) (AgreesNext-check old c.history.ensures.agrees c.args.to within c.of-state.result (Some c.number-number.result)).agrees in
+    subst Agrees (sym c.append.ensures.processes) (AgreesNext-check old c.history.ensures.agrees
+    c.args.to within c.of-state.result (Some c.number-number.result)).agrees in
     AgreesNext-mark c.append.new.self.processes agrees c.args.to
-    (omega (arith, within, ap (λ (h : List Process). length h) c.append.ensures.processes, length-with_event old c.args.to e)) c.args.from c.number-number.result
+    (omega (
+      arith,
+      within,
+      ap (λ (h : List Process). length h) c.append.ensures.processes,
+      length-with_event old c.args.to e,
+    )) c.args.from c.number-number.result
 
 pub returns-clause-world : goal.returns-clause-world
 returns-clause-world c =
@@ -41,10 +58,17 @@ returns-clause-world c =
     let f : Event = Mark from r in
     let number : r ≡ c.args.running.now.number = c.number-number.ensures in
     let after : c.append_mark.new.self.processes ≡ with_event (with_event history to e) to f =
-    c.append_mark.ensures.processes ∙ ap (λ (h : List Process). with_event h to f) (c.append.ensures.processes ∙ ap (λ (h : List Process). with_event h to e) c.in_ok-reserve.ensures.processes) in
-    let queues : c.drop_first.new.self ≡ with_list (with_on_each links to (Marker r)) from to (drop 1 (between (with_on_each links to (Marker r)) from to)) =
-    c.drop_first.ensures ∙ ap (λ (q : List (List (List Item))). with_list q from to (drop 1 (between q from to))) c.in_ok-push_each.ensures.ok in
+    c.append_mark.ensures.processes ∙ ap (λ (h : List Process). with_event h to f)
+    (c.append.ensures.processes ∙ ap
+    (λ (h : List Process). with_event h to e) c.in_ok-reserve.ensures.processes) in
+    let queues : c.drop_first.new.self ≡ with_list (with_on_each links to (Marker r)) from to
+    (drop 1 (between (with_on_each links to (Marker r)) from to)) =
+    c.drop_first.ensures ∙ ap (λ (q : List (List (List Item))). with_list q from to
+    (drop 1 (between q from to))) c.in_ok-push_each.ensures.ok in
     subst (λ (h : List Process). IsWorld Fifo h c.drop_first.new.self) (sym after)
-    (subst (λ (q : List (List (List Item))). IsWorld Fifo (with_event (with_event history to e) to f) q) (sym queues)
-    (IsWorld-forced history links c.requires.world from to r c.of-state.result c.requires.from c.requires.to c.requires.other
-    (ap (λ (v : ℕ). has_check_of v (tape_at history to)) number ∙ c.requires.first) (c.requires.marker ∙ ap (λ (v : ℕ). Some (Marker v)) (sym number))))
+    (subst (λ (q : List (List (List Item))). IsWorld Fifo
+    (with_event (with_event history to e) to f) q) (sym queues)
+    (IsWorld-forced history links c.requires.world from to r c.of-state.result c.requires.from
+    c.requires.to c.requires.other
+    (ap (λ (v : ℕ). has_check_of v (tape_at history to)) number ∙ c.requires.first)
+    (c.requires.marker ∙ ap (λ (v : ℕ). Some (Marker v)) (sym number))))

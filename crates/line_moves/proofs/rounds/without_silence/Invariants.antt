@@ -10,7 +10,8 @@ invariant-each l =
     (l.q ≤ length l.kept.items)
     × All (λ (marker : MarkerView). marker.n ≡ l.n) l.kept.items
     × Ascend 0 l.kept.items
-    × ((p to : ℕ) → p < l.n → to < l.n → kept_channel l.kept.items l.round p to ≡ recorded_channel l.fn.markers.items l.round p to)
+    × ((p to : ℕ) → p < l.n → to < l.n
+    → kept_channel l.kept.items l.round p to ≡ recorded_channel l.fn.markers.items l.round p to)
 
 abbrev pub decreases-each : goal.decreases-each
 decreases-each l = l.q

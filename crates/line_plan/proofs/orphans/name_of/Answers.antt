@@ -22,13 +22,20 @@ returns-in-Some c =
     let p : ℕ = c.args.p in
     let number : ℕ = c.args.number in
     let sent : List ℕ = incarnations_sent (tape_at c.args.history.now.processes p) in
-    let found : slice_get sent number ≡ Some c.in-Some.inc = ap (λ (es : List Event). slice_get (incarnations_sent es) number) (sym c.tape.ensures.events) ∙ sym c.sent_under.ensures ∙ c.in-Some.is in
-    ap (λ (inc : ℕ). let name : MsgName = record { from = p; inc = inc; number = number } in name) (sym (get_or_from_slice_get sent number c.in-Some.inc (incarnation_at c.args.history.now.processes p) found))
+    let found : slice_get sent number
+    ≡ Some c.in-Some.inc = ap (λ (es : List Event). slice_get (incarnations_sent es) number)
+    (sym c.tape.ensures.events) ∙ sym c.sent_under.ensures ∙ c.in-Some.is in
+    ap (λ (inc : ℕ). let name : MsgName = record { from = p; inc = inc; number = number } in name)
+    (sym (get_or_from_slice_get sent number c.in-Some.inc
+    (incarnation_at c.args.history.now.processes p) found))
 
 pub returns-in-None : goal.returns-in-None
 returns-in-None c =
     let p : ℕ = c.args.p in
     let number : ℕ = c.args.number in
     let sent : List ℕ = incarnations_sent (tape_at c.args.history.now.processes p) in
-    let none : slice_get sent number ≡ None = ap (λ (es : List Event). slice_get (incarnations_sent es) number) (sym c.tape.ensures.events) ∙ sym c.sent_under.ensures ∙ c.in-None.is in
-    ap (λ (inc : ℕ). let name : MsgName = record { from = p; inc = inc; number = number } in name) (c.incarnation.ensures ∙ sym (none-past sent number (incarnation_at c.args.history.now.processes p) none))
+    let none : slice_get sent number ≡ None = ap (λ (es : List Event). slice_get (incarnations_sent
+    es) number) (sym c.tape.ensures.events) ∙ sym c.sent_under.ensures ∙ c.in-None.is in
+    ap (λ (inc : ℕ). let name : MsgName = record { from = p; inc = inc; number = number } in name)
+    (c.incarnation.ensures ∙ sym
+    (none-past sent number (incarnation_at c.args.history.now.processes p) none))

@@ -4,4 +4,5 @@ use Rattle.line_tape.specs.Chain.{latest_choice}
 use Rattle.line_plan.proofs.planner.first_ceilings.Given as goal
 
 abbrev pub invariant-loop-q : goal.invariant-loop-q
-invariant-loop-q l = l.line ≡ map (latest_choice l.catalogue.processes l.catalogue.marks l.failed) (range_with_len 0 l.q)
+invariant-loop-q l = l.line
+    ≡ map (latest_choice l.catalogue.processes l.catalogue.marks l.failed) (range_with_len 0 l.q)

@@ -7,6 +7,7 @@ use Rattle.line_plan.proofs.planner.mark_hearers.Given as goal
 
 abbrev pub invariant-loop-q : goal.invariant-loop-q
 invariant-loop-q l = record {
-  heard : (k : ℕ) → k < l.q → is_member l.dirty k ≡ false → reach_from (tape_at l.catalogue.processes k) l.p ≤ l.count;
+  heard : (k : ℕ) → k < l.q → is_member l.dirty k ≡ false
+      → reach_from (tape_at l.catalogue.processes k) l.p ≤ l.count;
   still : AreStillDirty l.fn.dirty l.dirty;
 }

@@ -14,7 +14,8 @@ invariant-sweeps l = record {
   due : AreOfNextSweep (length l.catalogue.processes) l.certificate.items l.visits.dirty;
   swept : sweeps_with_entries l.certificate.items ≡ l.sweeps;
   few : l.sweeps ≤ vec_len l.certificate;
-  paid : vec_len l.certificate + height l.catalogue.processes l.line ≤ height l.catalogue.processes (first_ceilings l.catalogue.processes l.catalogue.marks l.failed);
+  paid : vec_len l.certificate + height l.catalogue.processes l.line ≤ height l.catalogue.processes
+      (first_ceilings l.catalogue.processes l.catalogue.marks l.failed);
 }
 
 abbrev pub decreases-sweeps : goal.decreases-sweeps

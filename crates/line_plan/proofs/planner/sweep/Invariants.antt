@@ -10,7 +10,9 @@ invariant-loop-q l = record {
   led : IsLed l.catalogue.processes l.catalogue.marks l.failed l.certificate.items l.line;
   sent : l.visits.sent ≡ sents_of l.catalogue.processes l.line;
   clean : AreClean l.catalogue.processes l.line l.visits.dirty;
-  moved : IsMoved l.catalogue.processes l.initial.line (vec_len l.initial.certificate) l.lowered l.line (vec_len l.certificate);
-  sweeping : IsSweeping (length l.catalogue.processes) l.initial.certificate.items l.q l.lowered l.certificate.items l.visits.dirty;
+  moved : IsMoved l.catalogue.processes l.initial.line
+      (vec_len l.initial.certificate) l.lowered l.line (vec_len l.certificate);
+  sweeping : IsSweeping (length l.catalogue.processes) l.initial.certificate.items l.q l.lowered
+      l.certificate.items l.visits.dirty;
   none : l.lowered ≡ false → AreSentBelow l.catalogue.processes l.line l.q;
 }

@@ -11,7 +11,8 @@ invariant-orphans l = record {
   led : IsLed l.catalogue.processes l.catalogue.marks l.failed l.certificate.items l.line;
   sent : l.sent ≡ sents_of l.catalogue.processes l.line;
   alone : IsSameBut l.initial.line l.line l.at;
-  moved : IsMoved l.catalogue.processes l.initial.line (vec_len l.initial.certificate) l.lowered l.line (vec_len l.certificate);
+  moved : IsMoved l.catalogue.processes l.initial.line
+      (vec_len l.initial.certificate) l.lowered l.line (vec_len l.certificate);
   passed : HasPassed l.at l.lowered l.initial.certificate.items l.certificate.items;
   few : l.clear ≤ length l.catalogue.processes;
   clear : AreFirstSent l.catalogue.processes l.line l.at l.clear;

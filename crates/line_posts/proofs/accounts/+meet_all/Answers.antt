@@ -8,12 +8,15 @@ use Rattle.line_posts.proofs.MeetLemmas.{fewer, last_linked, self_linked, all_me
 use Rattle.line_posts.proofs.accounts.+meet_all.Goals as goal
 
 pub meet_self-requires : goal.meet_self-requires
-meet_self-requires t c = (self_linked c.args.posts.now.items c.pop.new.self.items c.in-Some.last c.in-Some.ensures.items c.requires).1
+meet_self-requires t c = (self_linked c.args.posts.now.items c.pop.new.self.items c.in-Some.last
+    c.in-Some.ensures.items c.requires).1
 
 pub meet_each-requires : goal.meet_each-requires
 meet_each-requires t c = record {
-  linked = subst (λ (v : PostView). (j : ℕ) (other : PostView) → slice_get c.pop.new.self.items j ≡ Some other → AreLinkedTwo v other) (sym c.meet_self.ensures.same)
-      (last_linked c.args.posts.now.items c.pop.new.self.items c.in-Some.last c.in-Some.ensures.items c.requires);
+  linked = subst (λ (v : PostView). (j : ℕ) (other : PostView) → slice_get c.pop.new.self.items j
+      ≡ Some other → AreLinkedTwo v other) (sym c.meet_self.ensures.same)
+      (last_linked c.args.posts.now.items c.pop.new.self.items c.in-Some.last
+      c.in-Some.ensures.items c.requires);
 }
 
 pub meet_all-requires : goal.meet_all-requires
@@ -23,12 +26,15 @@ meet_all-requires t c =
     let g = length_push c.pop.new.self.items c.in-Some.last in
     let d = c.decreases in (
       omega (arith, e, f, g, d),
-      subst IsGeneration (sym c.meet_each.ensures.others) (fewer c.args.posts.now.items c.pop.new.self.items c.in-Some.last c.in-Some.ensures.items c.requires),
+      subst IsGeneration (sym c.meet_each.ensures.others) (fewer c.args.posts.now.items
+          c.pop.new.self.items c.in-Some.last c.in-Some.ensures.items c.requires),
     )
 
 pub returns-clause-met : goal.returns-clause-met
 returns-clause-met t c =
     let same = c.meet_self.ensures.same in
-    all_met c.args.posts.now.items c.pop.new.self.items c.in-Some.last c.in-Some.ensures.items c.meet_self.ensures.met
-    (subst (λ (v : PostView). (j : ℕ) (other : PostView) → slice_get c.pop.new.self.items j ≡ Some other → AreMetTwo v other × AreMetTwo other v) same c.meet_each.ensures.met)
+    all_met c.args.posts.now.items c.pop.new.self.items c.in-Some.last c.in-Some.ensures.items
+    c.meet_self.ensures.met
+    (subst (λ (v : PostView). (j : ℕ) (other : PostView) → slice_get c.pop.new.self.items j
+    ≡ Some other → AreMetTwo v other × AreMetTwo other v) same c.meet_each.ensures.met)
     (subst AreMet c.meet_each.ensures.others c.meet_all.ensures.met)

@@ -16,23 +16,39 @@ loop-p-preserved c =
     let v = c.number.ensures.value in
     let f = c.if-number-p.false in
     let g = c.if-n-len.false in
-    order_more (λ (post : PostView). IsPost post × IsTape post.tape) c.args.posts.now.items c.loop-p.p c.index-post.result.now (there c.args.posts.now.items c.args.posts.now.items c.loop-p.p c.index-post.result.now refl (omega (arith, t, l)) c.index-post.ensures)
+    order_more (λ (post : PostView). IsPost post × IsTape post.tape) c.args.posts.now.items
+    c.loop-p.p c.index-post.result.now (there c.args.posts.now.items c.args.posts.now.items
+    c.loop-p.p c.index-post.result.now refl (omega (arith, t, l)) c.index-post.ensures)
     c.number.ensures.known (sym v ∙ f) (omega (arith, m, g, k)) c.loop-p.invariant
 
 pub returns-clause-order : goal.returns-clause-order
 returns-clause-order c =
-    let seen = λ (p : _) (post : _) (at : slice_get c.args.posts.now.items p ≡ Some post). (let f = c.loop-p-test.false in let l = c.len-p-end.ensures in let w = slice_get_within c.args.posts.now.items p post at in c.loop-p.invariant p post (omega (arith, f, l, w)) at) in
+    let seen = λ (p : _) (post : _) (at : slice_get c.args.posts.now.items p ≡ Some post).
+    (let f = c.loop-p-test.false in let l = c.len-p-end.ensures in let w = slice_get_within
+    c.args.posts.now.items p post at in c.loop-p.invariant p post (omega (arith, f, l, w)) at)
+    in
     (λ _. λ p post at. ((seen p post at).1, (seen p post at).2), λ _. refl)
 
 pub returns-clause-accounted : goal.returns-clause-accounted
 returns-clause-accounted c _ =
-    let seen = λ (p : _) (post : _) (at : slice_get c.args.posts.now.items p ≡ Some post). (let f = c.loop-p-test.false in let l = c.len-p-end.ensures in let w = slice_get_within c.args.posts.now.items p post at in c.loop-p.invariant p post (omega (arith, f, l, w)) at) in
-    accounted c.args.posts.now.items (all_of c.args.posts.now.items (λ p post at. (seen p post at).0.0) (λ p post at. ((seen p post at).1, (seen p post at).2))) c.requires c.meet_all.ensures.met
+    let seen = λ (p : _) (post : _) (at : slice_get c.args.posts.now.items p ≡ Some post).
+    (let f = c.loop-p-test.false in let l = c.len-p-end.ensures in let w = slice_get_within
+    c.args.posts.now.items p post at in c.loop-p.invariant p post (omega (arith, f, l, w)) at)
+    in
+    accounted c.args.posts.now.items
+    (all_of c.args.posts.now.items (λ p post at. (seen p post at).0.0)
+    (λ p post at. ((seen p post at).1, (seen p post at).2))) c.requires c.meet_all.ensures.met
 
 pub returns-clause-fit : goal.returns-clause-fit
 returns-clause-fit c _ =
-    let seen = λ (p : _) (post : _) (at : slice_get c.args.posts.now.items p ≡ Some post). (let f = c.loop-p-test.false in let l = c.len-p-end.ensures in let w = slice_get_within c.args.posts.now.items p post at in c.loop-p.invariant p post (omega (arith, f, l, w)) at) in
-    fits c.args.posts.now.items (all_of c.args.posts.now.items (λ p post at. (seen p post at).0.0) (λ p post at. ((seen p post at).1, (seen p post at).2))) c.requires c.meet_all.ensures.met
+    let seen = λ (p : _) (post : _) (at : slice_get c.args.posts.now.items p ≡ Some post).
+    (let f = c.loop-p-test.false in let l = c.len-p-end.ensures in let w = slice_get_within
+    c.args.posts.now.items p post at in c.loop-p.invariant p post (omega (arith, f, l, w)) at)
+    in
+    fits c.args.posts.now.items (all_of c.args.posts.now.items (λ p post at. (seen p post at).0.0)
+    (λ p post at. ((seen p post at).1, (seen p post at).2))) c.requires c.meet_all.ensures.met
 
 pub returns-clause-known : goal.returns-clause-known
-returns-clause-known c = λ _ p post at. (let f = c.loop-p-test.false in let l = c.len-p-end.ensures in let w = slice_get_within c.args.posts.now.items p post at in (c.loop-p.invariant p post (omega (arith, f, l, w)) at).0)
+returns-clause-known c = λ _ p post at.
+    (let f = c.loop-p-test.false in let l = c.len-p-end.ensures in let w = slice_get_within
+    c.args.posts.now.items p post at in (c.loop-p.invariant p post (omega (arith, f, l, w)) at).0)

@@ -5,4 +5,6 @@ use Rattle.line_posts.specs.Posts.{IsPost, PostView}
 use Rattle.line_posts.proofs.accounts.account.Given as goal
 
 abbrev pub invariant-loop-p : goal.invariant-loop-p
-invariant-loop-p l = (k : ℕ) (post : PostView) → k < l.p → slice_get l.posts.items k ≡ Some post → (IsPost post × IsTape post.tape) × (post.number ≡ k) × (length post.opening ≡ length l.posts.items)
+invariant-loop-p l = (k : ℕ) (post : PostView) → k < l.p → slice_get l.posts.items k ≡ Some post
+    → (IsPost post × IsTape post.tape) × (post.number ≡ k)
+    × (length post.opening ≡ length l.posts.items)

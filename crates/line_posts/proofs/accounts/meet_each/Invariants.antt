@@ -9,5 +9,6 @@ invariant-loop-j l = record {
   one_is : l.one ≡ l.fn.one;
   others_are : l.others.items ≡ l.fn.others.items;
   room : vec_capacity l.others ≡ vec_capacity l.fn.others;
-  met : (k : ℕ) (other : PostView) → k < l.j → slice_get l.fn.others.items k ≡ Some other → AreMetTwo l.fn.one other × AreMetTwo other l.fn.one;
+  met : (k : ℕ) (other : PostView) → k < l.j → slice_get l.fn.others.items k ≡ Some other
+      → AreMetTwo l.fn.one other × AreMetTwo other l.fn.one;
 }

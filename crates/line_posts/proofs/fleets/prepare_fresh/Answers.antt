@@ -14,7 +14,8 @@ use Rattle.line_posts.proofs.fleets.prepare_fresh.Goals as goal
 pub loop-q-init : goal.loop-q-init
 loop-q-init c = record {
   count = ap length c.in_ok-journals.ensures.items;
-  each = λ p journal at. (let none = ap (λ t. slice_get t p) c.in_ok-journals.ensures.items in absurd (cc (none, at)));
+  each = λ p journal at.
+      (let none = ap (λ t. slice_get t p) c.in_ok-journals.ensures.items in absurd (cc (none, at)));
 }
 
 pub new-requires-clause-bare : goal.new-requires-clause-bare
@@ -25,7 +26,8 @@ loop-q-preserved c =
     let i = c.loop-q.invariant in
     let e = c.in_ok-journal.ensures in
     let me = (OkIff-at_ok c.try_new.result _ _ _ c.try_new.ensures c.unwrap-me.ensures).1 in
-    let both = journals_more (replicate c.args.n fresh) 0 c.loop-q.q c.loop-q.journals.items c.push.new.self.items c.in_ok-journal.journal i.count i.each c.in_ok-push.ensures.items
+    let both = journals_more (replicate c.args.n fresh) 0 c.loop-q.q c.loop-q.journals.items
+    c.push.new.self.items c.in_ok-journal.journal i.count i.each c.in_ok-push.ensures.items
     (record {
       n_is = e.same.0 ∙ sym (length-replicate c.args.n fresh);
       me_is = e.same.1 ∙ me;
@@ -41,9 +43,13 @@ returns c =
     let f = c.loop-q-test.false in
     let l = length-replicate c.args.n fresh in
     let k = i.count in
-    let journals : AreJournals (replicate c.args.n fresh) 0 c.loop-q.journals.items = record { count = omega (arith, f, l, k); each = i.each } in
+    let journals : AreJournals (replicate c.args.n fresh) 0 c.loop-q.journals.items = record
+    { count = omega (arith, f, l, k); each = i.each } in
     if_ok_then c.prepare.result
-    (λ prepared. (opening : List Process) (floor : ℕ) → AreJournals opening floor c.loop-q.journals.items → AreAllReplays opening (packets_of c.in_ok-replays.replays.items) → IsPrepared opening floor c.args.capacity prepared)
+    (λ prepared. (opening : List Process) (floor : ℕ)
+    → AreJournals opening floor c.loop-q.journals.items → AreAllReplays opening (packets_of
+    c.in_ok-replays.replays.items) → IsPrepared opening floor c.args.capacity prepared)
     (λ prepared. IsPrepared (replicate c.args.n fresh) 0 c.args.capacity prepared)
-    (λ prepared f. f (replicate c.args.n fresh) 0 journals (no_replays_fresh c.args.n (packets_of c.in_ok-replays.replays.items) c.in_ok-replays.ensures))
+    (λ prepared f. f (replicate c.args.n fresh) 0 journals (no_replays_fresh c.args.n
+    (packets_of c.in_ok-replays.replays.items) c.in_ok-replays.ensures))
     c.prepare.ensures

@@ -16,5 +16,8 @@ returns-clause-done c = λ history keeps.
       at = L.ensures.live;
       floor = ap (λ (f : Floor). Some f) N.ensures.floor;
       marks = N.ensures.marks;
-      keeps = keeps_left K.processes K.marks L.later L.ensures.live L.ensures.is L.ensures.stays C.cut.processes C.cut.marks C.ensures.processes C.ensures.marks c.args.forgotten.now history N.next keeps c.history-history.ensures.agrees c.marks-marks.ensures.exist c.marks-marks.ensures.count N.ensures.floor N.ensures.marks;
+      keeps = keeps_left K.processes K.marks L.later L.ensures.live L.ensures.is L.ensures.stays
+          C.cut.processes C.cut.marks C.ensures.processes C.ensures.marks c.args.forgotten.now
+          history N.next keeps c.history-history.ensures.agrees c.marks-marks.ensures.exist
+          c.marks-marks.ensures.count N.ensures.floor N.ensures.marks;
     }

@@ -16,9 +16,12 @@ unreachable-requires c =
     let K = c.args.catalogue.now in
     let failed : List Bool = c.everyone-failed.result in
     let line : List Choice = c.in-Ok.plan.line in
-    let every : HaveAllFailed (length K.processes) failed = subst (λ (n : ℕ). HaveAllFailed n failed) c.n.ensures.value c.everyone-failed.ensures in
-    let are : IsOfChecks line = all_checks K.processes K.marks failed line every c.in-Ok.ensures.latest in
-    subst (λ o. SomeIff o (IsOfChecks line) (floor_of_line K.processes line ALL_ROUNDS)) c.in-None.is c.in_ok-floor-in-Ok.ensures.value are
+    let every : HaveAllFailed (length K.processes) failed = subst
+    (λ (n : ℕ). HaveAllFailed n failed) c.n.ensures.value c.everyone-failed.ensures in
+    let are : IsOfChecks line = all_checks K.processes K.marks failed line every
+    c.in-Ok.ensures.latest in
+    subst (λ o. SomeIff o (IsOfChecks line) (floor_of_line K.processes line ALL_ROUNDS))
+    c.in-None.is c.in_ok-floor-in-Ok.ensures.value are
 
 pub returns-in-Some : goal.returns-in-Some
 returns-in-Some c =
@@ -26,11 +29,24 @@ returns-in-Some c =
     let failed : List Bool = c.everyone-failed.result in
     let line : List Choice = c.in-Ok.plan.line in
     let floor : Floor = c.in-Some.floor in
-    let every : HaveAllFailed (length K.processes) failed = subst (λ (n : ℕ). HaveAllFailed n failed) c.n.ensures.value c.everyone-failed.ensures in
-    let told : IsOfChecks line × (floor ≡ floor_of_line K.processes line ALL_ROUNDS) = subst (λ o. SomeIff o (IsOfChecks line) (floor_of_line K.processes line ALL_ROUNDS)) c.in-Some.is c.in_ok-floor-in-Ok.ensures.value in
-    let there : IsConsistent K.processes line → IsFloor K.processes floor = subst (λ o. IfSome o (λ (f : Floor). IsConsistent K.processes line → IsFloor K.processes f)) c.in-Some.is c.in_ok-floor-in-Ok.ensures.floor in
+    let every : HaveAllFailed (length K.processes) failed = subst
+    (λ (n : ℕ). HaveAllFailed n failed) c.n.ensures.value c.everyone-failed.ensures in
+    let told : IsOfChecks line
+    × (floor ≡ floor_of_line K.processes line ALL_ROUNDS) = subst
+    (λ o. SomeIff o (IsOfChecks line) (floor_of_line K.processes line ALL_ROUNDS)) c.in-Some.is
+    c.in_ok-floor-in-Ok.ensures.value in
+    let there : IsConsistent K.processes line
+    → IsFloor K.processes floor = subst (λ o. IfSome o (λ (f : Floor). IsConsistent K.processes
+    line → IsFloor K.processes f)) c.in-Some.is c.in_ok-floor-in-Ok.ensures.floor in
     record {
-      live = record { failed = failed; all = every; line = line; latest = c.in-Ok.ensures.latest; value = told.1 };
+      live = record {
+        failed = failed;
+        all = every;
+        line = line;
+        latest = c.in-Ok.ensures.latest;
+        value = told.1;
+      };
       is = there c.in-Ok.ensures.latest.recoverable.consistent;
-      stays = subst (λ (f : Floor). FloorSurvives K.processes K.marks f) (sym told.1) (live_survives K.processes K.marks failed line every c.in-Ok.ensures.latest ALL_ROUNDS);
+      stays = subst (λ (f : Floor). FloorSurvives K.processes K.marks f) (sym told.1)
+          (live_survives K.processes K.marks failed line every c.in-Ok.ensures.latest ALL_ROUNDS);
     }

@@ -12,8 +12,17 @@ returns-in-None c =
     let K = c.args.catalogue.now in
     let F = c.args.failed.now in
     let e = c.in_ok-plan.ensures in
-    subst (λ (f : Option Forgotten). (history : List Process) → IsKeptOf f history K.processes K.marks → IsPlanned history (whole_marks f K.marks) F c.in_ok-plan.plan) (sym c.in-None.is)
-    (λ history same. subst (λ (h : List Process). IsPlanned h K.marks F c.in_ok-plan.plan) same (record { latest = e.latest; chain = e.chain; some_sweep = e.some_sweep; few_sweeps = e.few_sweeps; replays = e.replays }))
+    subst (λ (f : Option Forgotten). (history : List Process) → IsKeptOf f history K.processes
+    K.marks → IsPlanned history (whole_marks f K.marks) F c.in_ok-plan.plan) (sym c.in-None.is)
+    (λ history same. subst (λ (h : List Process). IsPlanned h K.marks F c.in_ok-plan.plan) same
+    (record {
+      latest = e.latest;
+      chain = e.chain;
+      some_sweep = e.some_sweep;
+      few_sweeps =
+          e.few_sweeps;
+      replays = e.replays;
+    }))
 
 pub returns-then-bring_back : goal.returns-then-bring_back
 returns-then-bring_back c =
@@ -21,5 +30,16 @@ returns-then-bring_back c =
     let F = c.args.failed.now in
     let e = c.in_ok-plan.ensures in
     let G = c.in-Some.forgotten in
-    subst (λ (f : Option Forgotten). (history : List Process) → IsKeptOf f history K.processes K.marks → IsPlanned history (whole_marks f K.marks) F c.bring_back.new.plan) (sym c.in-Some.is)
-    (λ history left. planned_whole G.floor history G.marks K.processes K.marks left F c.in_ok-plan.plan c.bring_back.new.plan (record { latest = e.latest; chain = e.chain; some_sweep = e.some_sweep; few_sweeps = e.few_sweeps; replays = e.replays }) (c.bring_back.ensures c.if-bring_back.true))
+    subst (λ (f : Option Forgotten). (history : List Process)
+    → IsKeptOf f history K.processes K.marks
+    → IsPlanned history (whole_marks f K.marks) F c.bring_back.new.plan) (sym c.in-Some.is)
+    (λ history left. planned_whole G.floor history G.marks K.processes K.marks left F
+    c.in_ok-plan.plan c.bring_back.new.plan
+    (record {
+      latest = e.latest;
+      chain = e.chain;
+      some_sweep = e.some_sweep;
+      few_sweeps =
+          e.few_sweeps;
+      replays = e.replays;
+    }) (c.bring_back.ensures c.if-bring_back.true))

@@ -5,7 +5,8 @@ use Rattle.line_posts.proofs.further.add_and_keep.Given as goal
 
 abbrev pub invariant-loop-r : goal.invariant-loop-r
 invariant-loop-r l = record {
-  way : IsOnWay l.fn.catalogue.processes (rows_of l.fn.further.items) l.catalogue.processes l.catalogue.rooms (rows_of l.further.items);
+  way : IsOnWay l.fn.catalogue.processes (rows_of l.fn.further.items) l.catalogue.processes
+      l.catalogue.rooms (rows_of l.further.items);
   marks : l.catalogue.marks ≡ l.fn.catalogue.marks;
   done : (k : ℕ) → k < l.r → row_at (rows_of l.further.items) k ≡ [];
 }

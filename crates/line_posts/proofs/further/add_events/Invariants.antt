@@ -5,9 +5,11 @@ use Rattle.line_posts.proofs.further.add_events.Given as goal
 
 abbrev pub invariant-events : goal.invariant-events
 invariant-events l = record {
-  way : IsOnWay l.fn.catalogue.processes (rows_of l.fn.further.items) l.catalogue.processes l.catalogue.rooms (rows_of l.further.items);
+  way : IsOnWay l.fn.catalogue.processes (rows_of l.fn.further.items) l.catalogue.processes
+      l.catalogue.rooms (rows_of l.further.items);
   marks : l.catalogue.marks ≡ l.fn.catalogue.marks;
-  others : (k : ℕ) → k ≢ l.fn.p → row_at (rows_of l.further.items) k ≡ row_at (rows_of l.fn.further.items) k;
+  others : (k : ℕ) → k ≢ l.fn.p
+      → row_at (rows_of l.further.items) k ≡ row_at (rows_of l.fn.further.items) k;
 }
 
 abbrev pub decreases-events : goal.decreases-events

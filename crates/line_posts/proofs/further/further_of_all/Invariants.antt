@@ -11,6 +11,7 @@ invariant-loop-r l = record {
   lines : in_ends l.lines.items ≡ in_ends l.fn.lines.items;
   seen : StillKnow (known_rows l.fn.lines.items) l.lines.items;
   posts : l.posts.items ≡ l.fn.posts.items;
-  further : AreFurtherBelow l.r l.failed l.fn.catalogue.processes l.catalogue.rooms l.fn.posts.items (rows_of l.further.items);
+  further : AreFurtherBelow l.r l.failed l.fn.catalogue.processes l.catalogue.rooms l.fn.posts.items
+      (rows_of l.further.items);
   room : length l.fn.catalogue.processes ≤ vec_capacity l.further;
 }

@@ -8,5 +8,6 @@ invariant-loop-r l = record {
   lines : in_ends l.lines.items ≡ in_ends l.fn.lines.items;
   seen : StillKnow (known_rows l.fn.lines.items) l.lines.items;
   posts : l.posts.items ≡ l.fn.posts.items;
-  copied : AreCopied l.fn.n l.fn.failed (in_ends l.fn.lines.items) l.fn.posts.items l.r l.history.processes;
+  copied : AreCopied l.fn.n l.fn.failed
+      (in_ends l.fn.lines.items) l.fn.posts.items l.r l.history.processes;
 }

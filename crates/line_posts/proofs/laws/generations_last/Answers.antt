@@ -3,4 +3,9 @@ use Rattle.line_posts.proofs.SameLemmas.{generation_kept, lined_forgotten, lined
 use Rattle.line_posts.proofs.laws.generations_last.Goals as goal
 
 pub returns : goal.returns
-returns c = record { lines = lined_last; forgotten = lined_forgotten; workers = generation_kept; extends = more_extends }
+returns c = record {
+  lines = lined_last;
+  forgotten = lined_forgotten;
+  workers = generation_kept;
+  extends = more_extends;
+}

@@ -7,4 +7,6 @@ pub loop-q-preserved : goal.loop-q-preserved
 loop-q-preserved g c =
     ap in_rows c.in_ok-push.ensures.items
     ∙ (map-append (λ v. in_ends v.items) c.loop-q.ins.items (c.in_ok-column.column ∷ [])
-    ∙ (ap (λ t. t ++ in_ends c.in_ok-column.column.items ∷ []) c.loop-q.invariant ∙ (ap (λ t. replicate c.loop-q._q [] ++ in_ends t ∷ []) c.in_ok-column.ensures.items ∙ replicate_more c.loop-q._q [])))
+    ∙ (ap (λ t. t ++ in_ends c.in_ok-column.column.items ∷ []) c.loop-q.invariant ∙
+    (ap (λ t. replicate c.loop-q._q [] ++ in_ends t ∷ []) c.in_ok-column.ensures.items ∙
+    replicate_more c.loop-q._q [])))

@@ -27,11 +27,16 @@ loop-q-preserved c =
     let lt : c.loop-q.q < length (out_ends old) = omega (arith, t, n, l) in
     elim c.if-q-me.branch [
       | then-q-me w ↦ rw w.outs-is (record {
-        ends = below_more (out_ends old) (out_ends c.loop-q.outs.items) (out_ends w.push_known.new.outs.items) c.args.me c.loop-q.q _ c.loop-q.invariant.ends lt (λ e. absurd (w.if-q-me.true e)) (λ e. w.push_known.ensures.ends);
-        room = λ k le lt. subst (λ v. 0 < v) (sym (w.push_known.ensures.others k (λ e. omega (arith, e, le)))) (c.loop-q.invariant.room k (omega (arith, le)) lt);
+        ends = below_more (out_ends old) (out_ends c.loop-q.outs.items)
+            (out_ends w.push_known.new.outs.items) c.args.me c.loop-q.q _ c.loop-q.invariant.ends lt
+            (λ e. absurd (w.if-q-me.true e)) (λ e. w.push_known.ensures.ends);
+        room = λ k le lt. subst (λ v. 0 < v) (sym (w.push_known.ensures.others k
+            (λ e. omega (arith, e, le)))) (c.loop-q.invariant.room k (omega (arith, le)) lt);
       })
       | else-q-me w ↦ rw w.outs-is (record {
-        ends = below_more (out_ends old) (out_ends c.loop-q.outs.items) (out_ends c.loop-q.outs.items) c.args.me c.loop-q.q _ c.loop-q.invariant.ends lt (λ e. refl) (λ e. absurd (e w.if-q-me.false));
+        ends = below_more (out_ends old) (out_ends c.loop-q.outs.items)
+            (out_ends c.loop-q.outs.items) c.args.me c.loop-q.q _ c.loop-q.invariant.ends lt
+            (λ e. refl) (λ e. absurd (e w.if-q-me.false));
         room = λ k le lt. c.loop-q.invariant.room k (omega (arith, le)) lt;
       })
     ]
@@ -41,4 +46,5 @@ returns c =
     let f = c.loop-q-test.false in
     let n = c.len-q-end.ensures in
     let l = length-map c.args.outs.now.items producer_end in
-    c.loop-q.invariant.ends ∙ below_past (out_ends c.args.outs.now.items) c.args.me c.loop-q.q _ (omega (arith, f, n, l))
+    c.loop-q.invariant.ends ∙ below_past (out_ends c.args.outs.now.items) c.args.me c.loop-q.q _
+    (omega (arith, f, n, l))

@@ -20,15 +20,24 @@ invariant_of-result c =
     let t = ap length o.tape in
     let l = ap length o.line in
     let n = c.len-reported.ensures.value in
-    subst (λ (v : HistoryView). IsPost (post_of c.args.me v.processes c.args.journal.tape (map deque_items c.args.kept.items) (out_ends c.args.ends.outs.items) (in_ends c.args.ends.ins.items) (known_rows c.of-shown.result.value.items) (producer_end c.args.ends.line) c.args.journal.floor c.args.journal.rounds)
+    subst (λ (v : HistoryView). IsPost
+    (post_of c.args.me v.processes c.args.journal.tape (map deque_items c.args.kept.items)
+    (out_ends c.args.ends.outs.items) (in_ends c.args.ends.ins.items)
+    (known_rows c.of-shown.result.value.items)
+    (producer_end c.args.ends.line) c.args.journal.floor c.args.journal.rounds)
     × (c.incarnation-incarnation.result ≡ incarnation_at v.processes c.args.me)
-    × (c.len-reported.result ≡ length (tape_at v.processes c.args.me) + length (producer_end c.args.ends.line).items)
-    × (c.args.journal.n ≡ length v.processes) × (c.args.journal.me ≡ c.args.me) × StillKnow (known_rows c.of-shown.result.value.items) c.args.ends.ins.items)
+    × (c.len-reported.result
+    ≡ length (tape_at v.processes c.args.me) + length (producer_end c.args.ends.line).items)
+    × (c.args.journal.n ≡ length v.processes) × (c.args.journal.me ≡ c.args.me)
+    × StillKnow (known_rows c.of-shown.result.value.items) c.args.ends.ins.items)
     (sym c.of-opening.ensures) (
-      seen_free _ (known_rows c.of-shown.result.value.items) (opens _ o c.requires.fit c.tape-limits.ensures.limits.named),
+      seen_free _ (known_rows c.of-shown.result.value.items)
+          (opens _ o c.requires.fit c.tape-limits.ensures.limits.named),
       c.incarnation-incarnation.ensures,
       omega (arith, t, l, n),
       c.requires.count,
       c.requires.me,
-      subst (λ (t : List (List Parcel)). StillKnow t c.args.ends.ins.items) (sym (ap (λ (v : Vec (Consumer Parcel Global AnyItems) Global). known_rows v.items) c.of-shown.ensures)) (knows_self c.args.ends.ins.items),
+      subst (λ (t : List (List Parcel)). StillKnow t c.args.ends.ins.items)
+          (sym (ap (λ (v : Vec (Consumer Parcel Global AnyItems) Global). known_rows v.items)
+          c.of-shown.ensures)) (knows_self c.args.ends.ins.items),
     )

@@ -4,4 +4,6 @@ use Rattle.line_posts.proofs.CountLemmas.{AreLeft}
 use Rattle.line_posts.proofs.replays.all_replays.Given as goal
 
 abbrev pub invariant-loop-p : goal.invariant-loop-p
-invariant-loop-p l = AreLeft l.gathered.processes (restarted_history l.gathered.processes l.plan.line) l.plan.replays.items l.n l.p (counts_of l.counts.items) l.sums.items (packets_of l.packets.items)
+invariant-loop-p l = AreLeft l.gathered.processes
+    (restarted_history l.gathered.processes l.plan.line) l.plan.replays.items l.n l.p
+    (counts_of l.counts.items) l.sums.items (packets_of l.packets.items)

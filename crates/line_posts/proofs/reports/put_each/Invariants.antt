@@ -8,7 +8,9 @@ use Rattle.line_posts.proofs.reports.put_each.Given as goal
 
 abbrev pub invariant-loop-i : goal.invariant-loop-i
 invariant-loop-i l = record {
-  end : producer_end l.line ≡ with_items (producer_end l.fn.line) (take l.i (drop l.from l.tape.events));
+  end : producer_end l.line
+      ≡ with_items (producer_end l.fn.line) (take l.i (drop l.from l.tape.events));
   free : known_free l.line + l.i ≡ known_free l.fn.line;
-  states : deque_items l.states ≡ filter_map state_of (drop l.i (take l.k (drop l.from l.tape.events)));
+  states : deque_items l.states
+      ≡ filter_map state_of (drop l.i (take l.k (drop l.from l.tape.events)));
 }

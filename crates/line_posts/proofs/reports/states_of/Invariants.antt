@@ -5,4 +5,5 @@ use Rattle.line_tape.specs.Event.{state_of}
 use Rattle.line_posts.proofs.reports.states_of.Given as goal
 
 abbrev pub invariant-loop-i : goal.invariant-loop-i
-invariant-loop-i l = deque_items l.states ≡ filter_map state_of (take l.i (drop l.from l.tape.events))
+invariant-loop-i l =
+    deque_items l.states ≡ filter_map state_of (take l.i (drop l.from l.tape.events))

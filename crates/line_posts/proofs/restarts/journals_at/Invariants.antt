@@ -8,5 +8,6 @@ use Rattle.line_posts.proofs.restarts.journals_at.Given as goal
 abbrev pub invariant-loop-q : goal.invariant-loop-q
 invariant-loop-q l = record {
   count : length l.journals.items ≡ l.q;
-  each : (p : ℕ) (journal : JournalView) → slice_get l.journals.items p ≡ Some journal → IsJournalAt (restarted_history l.history.processes l.line) l.floor p journal;
+  each : (p : ℕ) (journal : JournalView) → slice_get l.journals.items p ≡ Some journal
+      → IsJournalAt (restarted_history l.history.processes l.line) l.floor p journal;
 }

@@ -17,17 +17,25 @@ loop-q-preserved c =
     let line : List Choice = c.args.line.now in
     let q : ℕ = c.loop-q.q in
     let at : c.unwrap-p.result ≡ q = (rw c.unwrap-p.ensures at c.try_new.ensures).1 in
-    let read : c.at.result ≡ choice_at line q = c.at.ensures ∙ ap (choice_at c.loop-q.line) at ∙ c.loop-q.invariant.left q (omega arith) in
-    let value : c.in-Some.choice ≡ whole_choice floor c.unwrap-p.result c.at.result = subst (λ o. IfSome o (λ w. w ≡ whole_choice floor c.unwrap-p.result c.at.result)) c.in-Some.is c.whole_choice.ensures in
-    let made : c.in-Some.choice ≡ whole_choice floor q (choice_at line q) = value ∙ ap (λ (p : ℕ). whole_choice floor p c.at.result) at ∙ ap (whole_choice floor q) read in
-    let new_is : c.set.new.self ≡ set c.loop-q.line q c.in-Some.choice = c.set.ensures ∙ ap (λ (p : ℕ). set c.loop-q.line p c.in-Some.choice) at in
+    let read : c.at.result ≡ choice_at line q = c.at.ensures ∙ ap
+    (choice_at c.loop-q.line) at ∙ c.loop-q.invariant.left q (omega arith) in
+    let value : c.in-Some.choice
+    ≡ whole_choice floor c.unwrap-p.result c.at.result = subst (λ o. IfSome o (λ w. w
+    ≡ whole_choice floor c.unwrap-p.result c.at.result)) c.in-Some.is c.whole_choice.ensures in
+    let made : c.in-Some.choice ≡ whole_choice floor q (choice_at line q) = value ∙ ap
+    (λ (p : ℕ). whole_choice floor p c.at.result) at ∙ ap (whole_choice floor q) read in
+    let new_is : c.set.new.self ≡ set c.loop-q.line q c.in-Some.choice = c.set.ensures ∙ ap
+    (λ (p : ℕ). set c.loop-q.line p c.in-Some.choice) at in
     let size : length c.loop-q.line ≡ length line = c.loop-q.invariant.count in
     record {
-      count = ap (λ (v : List Choice). length v) new_is ∙ length-set c.loop-q.line q c.in-Some.choice ∙ size;
+      count = ap (λ (v : List Choice). length v) new_is ∙ length-set c.loop-q.line q
+          c.in-Some.choice ∙ size;
       brought = λ p within. elim (cases_eq p q) [
         | inl here ↦
-            ap (λ (v : List Choice). choice_at v p) new_is ∙ ap (choice_at (set c.loop-q.line q c.in-Some.choice)) here
-            ∙ get_or-set_same c.loop-q.line q c.in-Some.choice (AtCheck 0) (omega (arith, c.loop-q-test.true, c.len-n.ensures.value, size))
+            ap (λ (v : List Choice). choice_at v p) new_is ∙ ap
+            (choice_at (set c.loop-q.line q c.in-Some.choice)) here
+            ∙ get_or-set_same c.loop-q.line q c.in-Some.choice (AtCheck 0)
+            (omega (arith, c.loop-q-test.true, c.len-n.ensures.value, size))
             ∙ made ∙ ap (λ (v : ℕ). whole_choice floor v (choice_at line v)) (sym here)
         | inr apart ↦
             ap (λ (v : List Choice). choice_at v p) new_is
@@ -36,7 +44,8 @@ loop-q-preserved c =
       ];
       left = λ p past.
           ap (λ (v : List Choice). choice_at v p) new_is
-          ∙ get_or-set_other c.loop-q.line q p c.in-Some.choice (AtCheck 0) (λ here. omega (arith, past, here))
+          ∙ get_or-set_other c.loop-q.line q p c.in-Some.choice (AtCheck 0)
+          (λ here. omega (arith, past, here))
           ∙ c.loop-q.invariant.left p (omega (arith, past));
     }
 
@@ -45,6 +54,8 @@ returns c = λ told.
     let floor : Floor = c.args.floor.now in
     let line : List Choice = c.args.line.now in
     let size : length c.loop-q.line ≡ length line = c.loop-q.invariant.count in
-    same_list (AtCheck 0) c.loop-q.line (whole_line floor line) (size ∙ sym (length_whole floor line)) (λ p within.
-    c.loop-q.invariant.brought p (omega (arith, within, size, c.loop-q-test.false, c.len-n.ensures.value))
+    same_list (AtCheck 0) c.loop-q.line (whole_line floor line)
+    (size ∙ sym (length_whole floor line)) (λ p within.
+    c.loop-q.invariant.brought p
+    (omega (arith, within, size, c.loop-q-test.false, c.len-n.ensures.value))
     ∙ sym (whole_at floor line p (omega (arith, within, size))))

@@ -6,6 +6,7 @@ use Rattle.line_posts.proofs.whole_names.bring_line.Given as goal
 abbrev pub invariant-loop-q : goal.invariant-loop-q
 invariant-loop-q l = record {
   count : length l.line ≡ length l.fn.line;
-  brought : (p : ℕ) → p < l.q → choice_at l.line p ≡ whole_choice l.fn.floor p (choice_at l.fn.line p);
+  brought : (p : ℕ) → p < l.q
+      → choice_at l.line p ≡ whole_choice l.fn.floor p (choice_at l.fn.line p);
   left : (p : ℕ) → l.q ≤ p → choice_at l.line p ≡ choice_at l.fn.line p;
 }

@@ -5,4 +5,5 @@ use Rattle.line_scripts.proofs.blocks.put_last.Goals as goal
 
 pub returns-then-not-is_empty-clause-same : goal.returns-then-not-is_empty-clause-same
 returns-then-not-is_empty-clause-same c =
-    ap commands_of_blocks c.push_back_reserved.ensures.items ∙ blocks_behind c.args.others.now.items c.args.last
+    ap commands_of_blocks c.push_back_reserved.ensures.items ∙ blocks_behind c.args.others.now.items
+    c.args.last

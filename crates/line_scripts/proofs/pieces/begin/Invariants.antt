@@ -9,7 +9,8 @@ invariant-records l = record {
   kept : IsBeginning l.beginning;
   before : has_machine l.beginning ≡ false;
   none : l.commands ≡ [];
-  same : (rest : List Record) → script_left (taken_of l.fn.beginning []) (l.fn.records ++ rest) ≡ script_left (taken_of l.beginning []) (l.records ++ rest);
+  same : (rest : List Record) → script_left (taken_of l.fn.beginning []) (l.fn.records ++ rest)
+      ≡ script_left (taken_of l.beginning []) (l.records ++ rest);
 }
 
 abbrev pub decreases-records : goal.decreases-records

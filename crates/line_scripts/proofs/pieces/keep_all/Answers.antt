@@ -10,8 +10,10 @@ returns-then-not-branch c =
 pub returns-in-Err : goal.returns-in-Err
 returns-in-Err c =
     let row = rw c.if-not-branch.false at c.in_ok-next_row.ensures.ok in
-    let number : c.count.result + c.args.first ≡ length c.records.commands + c.args.first = omega (arith, c.count.ensures.count, ap length c.in-Err.ensures.err) in
-    rw c.error_at.ensures (kept_no_more _ _ _ _ _ _ _ _ _ row number c.in-Err.ensures.exact c.records.invariant)
+    let number : c.count.result + c.args.first ≡ length c.records.commands + c.args.first = omega
+    (arith, c.count.ensures.count, ap length c.in-Err.ensures.err) in
+    rw c.error_at.ensures
+    (kept_no_more _ _ _ _ _ _ _ _ _ row number c.in-Err.ensures.exact c.records.invariant)
 
 pub records-preserved : goal.records-preserved
 records-preserved c =

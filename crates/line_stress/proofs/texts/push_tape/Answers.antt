@@ -9,4 +9,6 @@ pub to_event-requires : goal.to_event-requires
 to_event-requires c =
     let events = c.args.tape.now.events in
     let event = event_of_ref c.event.result in
-    subst IsShort (get_or_from_slice_get events c.loop-i.i event event c.event.ensures) (c.len-i-end.ensures.limits.short c.loop-i.i event (slice_get_within events c.loop-i.i event c.event.ensures))
+    subst IsShort (get_or_from_slice_get events c.loop-i.i event event c.event.ensures)
+    (c.len-i-end.ensures.limits.short c.loop-i.i event
+    (slice_get_within events c.loop-i.i event c.event.ensures))

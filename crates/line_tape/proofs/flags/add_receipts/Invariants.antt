@@ -9,5 +9,7 @@ use Rattle.line_tape.proofs.flags.add_receipts.Given as goal
 abbrev pub invariant-loop-i : goal.invariant-loop-i
 invariant-loop-i l = record {
   count : length l.received.items ≡ length l.fn.received.items;
-  told : (seen : ℕ → List Event) → AreTold l.history.processes l.line seen l.fn.received.items → AreTold l.history.processes l.line (with_seen seen l.q (seen l.q ++ take l.i (receipts_of (names_received (events_before l.history.processes l.line l.q))))) l.received.items;
+  told : (seen : ℕ → List Event) → AreTold l.history.processes l.line seen l.fn.received.items
+      → AreTold l.history.processes l.line (with_seen seen l.q (seen l.q ++ take l.i (receipts_of
+      (names_received (events_before l.history.processes l.line l.q))))) l.received.items;
 }

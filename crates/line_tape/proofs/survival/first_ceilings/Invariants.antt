@@ -4,4 +4,5 @@ use Rattle.line_tape.specs.Chain.{latest_choice}
 use Rattle.line_tape.proofs.survival.first_ceilings.Given as goal
 
 abbrev pub invariant-loop-q : goal.invariant-loop-q
-invariant-loop-q l = l.line ≡ map (latest_choice l.history.processes l.marks l.failed) (range_with_len 0 l.q)
+invariant-loop-q l =
+    l.line ≡ map (latest_choice l.history.processes l.marks l.failed) (range_with_len 0 l.q)

@@ -5,7 +5,8 @@ use Rattle.line_tape.proofs.survival.latest_check.Given as goal
 
 abbrev pub invariant-loop-check : goal.invariant-loop-check
 invariant-loop-check l =
-    latest_check (survives l.history.processes l.marks l.failed l.p) l.check ≡ latest_check (survives l.history.processes l.marks l.failed l.p) l.last
+    latest_check (survives l.history.processes l.marks l.failed l.p) l.check
+    ≡ latest_check (survives l.history.processes l.marks l.failed l.p) l.last
 
 abbrev pub decreases-loop-check : goal.decreases-loop-check
 decreases-loop-check l = l.check

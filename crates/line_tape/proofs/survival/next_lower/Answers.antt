@@ -11,22 +11,54 @@ use Rattle.line_tape.proofs.survival.next_lower.Goals as goal
 
 pub returns-in-Check-clause-survives : goal.returns-in-Check-clause-survives
 returns-in-Check-clause-survives c =
-    let value : c.latest_check.result ≡ next_lower c.args.history.now.processes c.args.marks.now c.args.failed.now c.args.p c.args.choice = c.latest_check.ensures ∙ ap (latest_check (survives c.args.history.now.processes c.args.marks.now c.args.failed.now c.args.p)) c.saturating_sub.ensures ∙ ap (next_lower c.args.history.now.processes c.args.marks.now c.args.failed.now c.args.p) (sym c.in-Check.is) in
-    subst (λ (x : Choice). survives c.args.history.now.processes c.args.marks.now c.args.failed.now c.args.p x ≡ true) (sym value) (next_lower_survives c.args.history.now.processes c.args.marks.now c.args.failed.now c.args.p c.args.choice)
+    let value : c.latest_check.result
+    ≡ next_lower c.args.history.now.processes c.args.marks.now c.args.failed.now c.args.p
+    c.args.choice = c.latest_check.ensures ∙ ap
+    (latest_check
+    (survives c.args.history.now.processes c.args.marks.now c.args.failed.now c.args.p))
+    c.saturating_sub.ensures ∙ ap (next_lower c.args.history.now.processes c.args.marks.now
+    c.args.failed.now c.args.p) (sym c.in-Check.is) in
+    subst (λ (x : Choice). survives c.args.history.now.processes c.args.marks.now c.args.failed.now
+    c.args.p x ≡ true) (sym value) (next_lower_survives c.args.history.now.processes
+    c.args.marks.now c.args.failed.now c.args.p c.args.choice)
 
 pub returns-in-Check-clause-latest : goal.returns-in-Check-clause-latest
 returns-in-Check-clause-latest c = λ other lives earlier apart.
-    let value : c.latest_check.result ≡ next_lower c.args.history.now.processes c.args.marks.now c.args.failed.now c.args.p c.args.choice = c.latest_check.ensures ∙ ap (latest_check (survives c.args.history.now.processes c.args.marks.now c.args.failed.now c.args.p)) c.saturating_sub.ensures ∙ ap (next_lower c.args.history.now.processes c.args.marks.now c.args.failed.now c.args.p) (sym c.in-Check.is) in
-    subst (IsNoLater other) (sym value) (next_lower_above c.args.history.now.processes c.args.marks.now c.args.failed.now c.args.p c.args.choice other earlier apart lives)
+    let value : c.latest_check.result
+    ≡ next_lower c.args.history.now.processes c.args.marks.now c.args.failed.now c.args.p
+    c.args.choice = c.latest_check.ensures ∙ ap
+    (latest_check
+    (survives c.args.history.now.processes c.args.marks.now c.args.failed.now c.args.p))
+    c.saturating_sub.ensures ∙ ap (next_lower c.args.history.now.processes c.args.marks.now
+    c.args.failed.now c.args.p) (sym c.in-Check.is) in
+    subst (IsNoLater other) (sym value) (next_lower_above c.args.history.now.processes
+    c.args.marks.now c.args.failed.now c.args.p c.args.choice other earlier apart lives)
 
 pub returns-in-Now-clause-survives : goal.returns-in-Now-clause-survives
 returns-in-Now-clause-survives c =
-    let last : c.checks.result ≡ checks (tape_at c.args.history.now.processes c.args.p) = c.checks.ensures.value ∙ ap checks c.tape.ensures.events in
-    let value : c.latest_check-in-Now.result ≡ next_lower c.args.history.now.processes c.args.marks.now c.args.failed.now c.args.p c.args.choice = c.latest_check-in-Now.ensures ∙ ap (latest_check (survives c.args.history.now.processes c.args.marks.now c.args.failed.now c.args.p)) last ∙ ap (next_lower c.args.history.now.processes c.args.marks.now c.args.failed.now c.args.p) (sym c.in-Now.is) in
-    subst (λ (x : Choice). survives c.args.history.now.processes c.args.marks.now c.args.failed.now c.args.p x ≡ true) (sym value) (next_lower_survives c.args.history.now.processes c.args.marks.now c.args.failed.now c.args.p c.args.choice)
+    let last : c.checks.result ≡ checks (tape_at c.args.history.now.processes c.args.p) =
+    c.checks.ensures.value ∙ ap checks c.tape.ensures.events in
+    let value : c.latest_check-in-Now.result
+    ≡ next_lower c.args.history.now.processes c.args.marks.now c.args.failed.now c.args.p
+    c.args.choice = c.latest_check-in-Now.ensures ∙ ap
+    (latest_check
+    (survives c.args.history.now.processes c.args.marks.now c.args.failed.now c.args.p)) last ∙
+    ap (next_lower c.args.history.now.processes c.args.marks.now c.args.failed.now c.args.p)
+    (sym c.in-Now.is) in
+    subst (λ (x : Choice). survives c.args.history.now.processes c.args.marks.now c.args.failed.now
+    c.args.p x ≡ true) (sym value) (next_lower_survives c.args.history.now.processes
+    c.args.marks.now c.args.failed.now c.args.p c.args.choice)
 
 pub returns-in-Now-clause-latest : goal.returns-in-Now-clause-latest
 returns-in-Now-clause-latest c = λ other lives earlier apart.
-    let last : c.checks.result ≡ checks (tape_at c.args.history.now.processes c.args.p) = c.checks.ensures.value ∙ ap checks c.tape.ensures.events in
-    let value : c.latest_check-in-Now.result ≡ next_lower c.args.history.now.processes c.args.marks.now c.args.failed.now c.args.p c.args.choice = c.latest_check-in-Now.ensures ∙ ap (latest_check (survives c.args.history.now.processes c.args.marks.now c.args.failed.now c.args.p)) last ∙ ap (next_lower c.args.history.now.processes c.args.marks.now c.args.failed.now c.args.p) (sym c.in-Now.is) in
-    subst (IsNoLater other) (sym value) (next_lower_above c.args.history.now.processes c.args.marks.now c.args.failed.now c.args.p c.args.choice other earlier apart lives)
+    let last : c.checks.result ≡ checks (tape_at c.args.history.now.processes c.args.p) =
+    c.checks.ensures.value ∙ ap checks c.tape.ensures.events in
+    let value : c.latest_check-in-Now.result
+    ≡ next_lower c.args.history.now.processes c.args.marks.now c.args.failed.now c.args.p
+    c.args.choice = c.latest_check-in-Now.ensures ∙ ap
+    (latest_check
+    (survives c.args.history.now.processes c.args.marks.now c.args.failed.now c.args.p)) last ∙
+    ap (next_lower c.args.history.now.processes c.args.marks.now c.args.failed.now c.args.p)
+    (sym c.in-Now.is) in
+    subst (IsNoLater other) (sym value) (next_lower_above c.args.history.now.processes
+    c.args.marks.now c.args.failed.now c.args.p c.args.choice other earlier apart lives)

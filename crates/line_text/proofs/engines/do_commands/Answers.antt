@@ -11,11 +11,13 @@ as_count true = refl
 as_count false = refl
 
 pub commands-init : goal.commands-init
-commands-init g c = record { run = starts _ _ _ _ c.requires.empty; left = refl; within = omega arith; sound = refl }
+commands-init g c = record
+    { run = starts _ _ _ _ c.requires.empty; left = refl; within = omega arith; sound = refl }
 
 pub returns-in_default-clause-ok : goal.returns-in_default-clause-ok
 returns-in_default-clause-ok g c =
-    run_whole _ _ _ _ _ _ _ _ _ _ _ _ _ c.commands.invariant.left c.in_default.ensures.none c.commands.invariant.within c.commands.invariant.run refl refl refl refl
+    run_whole _ _ _ _ _ _ _ _ _ _ _ _ _ c.commands.invariant.left c.in_default.ensures.none
+    c.commands.invariant.within c.commands.invariant.run refl refl refl refl
 
 pub returns-in-Err-Memory-clause-err : goal.returns-in-Err-Memory-clause-err
 returns-in-Err-Memory-clause-err g c =
@@ -45,7 +47,13 @@ pub commands-preserved : goal.commands-preserved
 commands-preserved g c =
     let first = first_left _ _ _ _ _ c.commands.invariant.left c.in-Some.ensures.some in
     record {
-      run = does_on _ _ _ _ _ _ _ _ _ _ _ _ _ first.0 first.1 c.commands.invariant.run (record { one = c.in-Ok.told; does = c.in-Ok.ensures.ok; counted = ap (λ (n : ℕ). c.commands.refused + n) (as_count c.in-Ok.told) });
+      run = does_on _ _ _ _ _ _ _ _ _ _ _ _ _ first.0 first.1 c.commands.invariant.run
+          (record {
+            one = c.in-Ok.told;
+            does = c.in-Ok.ensures.ok;
+            counted = ap
+                (λ (n : ℕ). c.commands.refused + n) (as_count c.in-Ok.told);
+          });
       left = c.drop_first.ensures ∙ first.2;
       within = omega (arith, first.0);
       sound = c.in-Ok.ensures.sound ∙ c.commands.invariant.sound;

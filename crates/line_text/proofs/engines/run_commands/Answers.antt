@@ -1,4 +1,5 @@
--- The sink failed where the end of the text was put, or also memory did not suffice for a command: a front of what was told is put.
+-- The sink failed where the end of the text was put, or also memory did not suffice for a command:
+-- a front of what was told is put.
 use Rattle.std.proofs.Common.{length, refl, ap, ◌∙◌}
 use Rattle.line_devices.specs.Devices.{one_more}
 use Rattle.line_text.proofs.RunLemmas.{stops_front, stops_with}
@@ -11,7 +12,13 @@ returns-in-Err-clause-write g c code =
     let front = rw c.text.ensures at c.in-Err.ensures.err in (
       rw c.fault_of_code.ensures refl,
       c.in-Err.ensures.failed ∙ ap one_more c.in-Ok.ensures.sound,
-      record { done = length c.args.commands.now; told = run.told; end = c.do_commands.new.world; run = run.run; text = puts_front_of_held _ _ _ _ _ run.text front },
+      record {
+        done = length c.args.commands.now;
+        told = run.told;
+        end = c.do_commands.new.world;
+        run = run.run;
+        text = puts_front_of_held _ _ _ _ _ run.text front;
+      },
     )
 
 pub returns-in-Err-put-clause-write : goal.returns-in-Err-put-clause-write
@@ -21,5 +28,6 @@ returns-in-Err-put-clause-write g c code =
     let front = rw c.text-in-Err-Memory.ensures at c.in-Err-put.ensures.err in (
       rw c.fault_of_code-in-Err-put.ensures refl,
       c.in-Err-put.ensures.failed ∙ ap one_more blamed,
-      stops_front _ _ _ _ _ (stops_with _ _ _ _ _ (λ text held. puts_front_of_held _ _ _ _ text held front) stopped),
+      stops_front _ _ _ _ _
+          (stops_with _ _ _ _ _ (λ text held. puts_front_of_held _ _ _ _ text held front) stopped),
     )

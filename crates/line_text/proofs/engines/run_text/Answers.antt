@@ -29,4 +29,5 @@ returns-in-Err-clause-write g c code =
 pub returns-in-Err-clause-memory : goal.returns-in-Err-clause-memory
 returns-in-Err-clause-memory g c code =
     let spelt = c.in_ok-script.ensures.spelt in
-    or_seen (λ at. (spelt.0, spelt.1, stops_text _ _ _ _ _ spelt.2 at)) (c.in-Err.ensures.memory code)
+    or_seen (λ at. (spelt.0, spelt.1, stops_text _ _ _ _ _ spelt.2 at))
+    (c.in-Err.ensures.memory code)

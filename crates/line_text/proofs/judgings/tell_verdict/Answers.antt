@@ -18,15 +18,19 @@ returns-in_err-put_verdict-clause-failed g c =
 pub returns-clause-ok : goal.returns-clause-ok
 returns-clause-ok g c =
     let held = rw c.requires at c.in_ok-put_verdict.ensures.ok in
-    on_ok_weaker c.put.result (λ end. puts_end _ _ _ _ _ held (rw c.text.ensures at end)) c.put.ensures.ok
+    on_ok_weaker c.put.result
+    (λ end. puts_end _ _ _ _ _ held (rw c.text.ensures at end)) c.put.ensures.ok
 
 pub returns-clause-err : goal.returns-clause-err
 returns-clause-err g c =
     let held = rw c.requires at c.in_ok-put_verdict.ensures.ok in
-    on_err_weaker c.put.result (λ end. puts_front_of_held _ _ _ _ _ held (rw c.text.ensures at end)) c.put.ensures.err
+    on_err_weaker c.put.result
+    (λ end. puts_front_of_held _ _ _ _ _ held (rw c.text.ensures at end)) c.put.ensures.err
 
 pub returns-clause-sound : goal.returns-clause-sound
-returns-clause-sound g c = on_ok_weaker c.put.result (λ same. same ∙ c.in_ok-put_verdict.ensures.sound) c.put.ensures.sound
+returns-clause-sound g c =
+    on_ok_weaker c.put.result (λ same. same ∙ c.in_ok-put_verdict.ensures.sound) c.put.ensures.sound
 
 pub returns-clause-failed : goal.returns-clause-failed
-returns-clause-failed g c = on_err_weaker c.put.result (λ more. more ∙ ap one_more c.in_ok-put_verdict.ensures.sound) c.put.ensures.failed
+returns-clause-failed g c = on_err_weaker c.put.result
+    (λ more. more ∙ ap one_more c.in_ok-put_verdict.ensures.sound) c.put.ensures.failed

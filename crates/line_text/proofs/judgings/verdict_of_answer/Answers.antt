@@ -12,15 +12,23 @@ pub returns-in-Ok : goal.returns-in-Ok
 returns-in-Ok c = λ start others.
     let history : List Process = c.args.check.now.history.processes in
     let claim : Claim = claim_view c.args.check.now.claim in
-    let same : answer_with claim.line c.as_slice-certificate.result.now c.as_slice-starts.result.now c.as_slice-replays.result.now ≡ answer_in claim
-    = answer_same claim _ _ _ c.as_slice-certificate.ensures.value c.as_slice-starts.ensures.value c.as_slice-replays.ensures.value in
-    let right : IsRightAnswer history claim.marks claim.failed (answer_in claim) = subst (IsRightAnswer history claim.marks claim.failed) same (c.in-Ok.ensures.ok.0 refl) in
-    (record { shape = right.shape; chain = right.chain; latest = c.in-Ok.ensures.latest refl }, right)
+    let same : answer_with claim.line c.as_slice-certificate.result.now c.as_slice-starts.result.now
+    c.as_slice-replays.result.now ≡ answer_in claim
+    = answer_same claim _ _ _ c.as_slice-certificate.ensures.value c.as_slice-starts.ensures.value
+    c.as_slice-replays.ensures.value in
+    let right : IsRightAnswer history claim.marks claim.failed (answer_in claim) = subst
+    (IsRightAnswer history claim.marks claim.failed) same (c.in-Ok.ensures.ok.0 refl) in (
+      record { shape = right.shape; chain = right.chain; latest = c.in-Ok.ensures.latest refl },
+      right,
+    )
 
 pub returns-in-Err : goal.returns-in-Err
 returns-in-Err c = λ start others.
     let history : List Process = c.args.check.now.history.processes in
     let claim : Claim = claim_view c.args.check.now.claim in
-    let same : answer_with claim.line c.as_slice-certificate.result.now c.as_slice-starts.result.now c.as_slice-replays.result.now ≡ answer_in claim
-    = answer_same claim _ _ _ c.as_slice-certificate.ensures.value c.as_slice-starts.ensures.value c.as_slice-replays.ensures.value in
-    subst (λ (answer : WholeAnswer). IsFirstFaultOfAnswer history claim.marks claim.failed answer c.in-Err.fault) same c.in-Err.ensures.fault
+    let same : answer_with claim.line c.as_slice-certificate.result.now c.as_slice-starts.result.now
+    c.as_slice-replays.result.now ≡ answer_in claim
+    = answer_same claim _ _ _ c.as_slice-certificate.ensures.value c.as_slice-starts.ensures.value
+    c.as_slice-replays.ensures.value in
+    subst (λ (answer : WholeAnswer). IsFirstFaultOfAnswer history claim.marks claim.failed answer
+    c.in-Err.fault) same c.in-Err.ensures.fault

@@ -4,8 +4,10 @@ use Rattle.line_text.proofs.laws.claims_of_version_1_are_judged_alike_in_version
 
 pub returns-clause-verdicts : goal.returns-clause-verdicts
 returns-clause-verdicts c number rest text later verdict old new is also h =
-    judged_alike text later verdict old new (λ check spelt. check_text_later number rest text later check is also spelt) h
+    judged_alike text later verdict old new
+    (λ check spelt. check_text_later number rest text later check is also spelt) h
 
 pub returns-clause-fronts : goal.returns-clause-fronts
 returns-clause-fronts c number rest text later old new is also h =
-    judged_front_alike text later old new (λ check spelt. check_text_later number rest text later check is also spelt) h
+    judged_front_alike text later old new
+    (λ check spelt. check_text_later number rest text later check is also spelt) h

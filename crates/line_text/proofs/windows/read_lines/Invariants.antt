@@ -10,5 +10,6 @@ invariant-loop-turn g l = record {
   sound : g.S.Source.faults l.source ≡ g.S.Source.faults l.fn.source;
   unended : g.S.Source.ends l.source ≡ g.S.Source.ends l.fn.source;
   counted : g.S.Source.given l.source ≡ g.S.Source.given l.fn.source + l.read;
-  come : HasCome (g.S.Source.left l.fn.source) (g.S.Source.left l.source) l.read (waiting l.window) (g.R.LineReader.has_taken l.reader);
+  come : HasCome (g.S.Source.left l.fn.source) (g.S.Source.left l.source) l.read (waiting l.window)
+      (g.R.LineReader.has_taken l.reader);
 }

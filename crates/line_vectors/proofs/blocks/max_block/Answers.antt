@@ -11,6 +11,8 @@ returns c =
     let b = c.args.b.now in
     let x = chunk c.args.at 8 a in
     let y = chunk c.args.at 8 b in
-    subst (λ ms. HasGreaterOn a (put_chunk c.args.at a (sel_l ms y x)) b c.args.at (c.args.at + 8)) (sym (tops_compared w32 ltb x y))
-    (subst (λ ys. HasGreaterOn a (put_chunk c.args.at a ys) b c.args.at (c.args.at + 8)) (sym (greater_sel x y))
+    subst (λ ms. HasGreaterOn a (put_chunk c.args.at a (sel_l ms y x)) b c.args.at (c.args.at + 8))
+    (sym (tops_compared w32 ltb x y))
+    (subst (λ ys. HasGreaterOn a (put_chunk c.args.at a ys) b c.args.at (c.args.at + 8))
+    (sym (greater_sel x y))
     (greater_on_block c.args.at a b c.requires.first c.requires.second))

@@ -7,8 +7,12 @@ pub loop-at-preserved : goal.loop-at-preserved
 loop-at-preserved c =
     let more = count_more c.args.a.now c.args.b.now c.loop-at.at in
     let is = c.over_bits.ensures in
-    let inv = c.loop-at.invariant in
-    (omega (arith, c.loop-at-test.true, inv.0), rw is (omega (arith, inv.1, more.1)), rw is (omega (arith, inv.2, more.0)))
+    let inv = c.loop-at.invariant in (
+      omega (arith, c.loop-at-test.true, inv.0),
+      rw is (omega (arith, inv.1, more.1)),
+      rw is
+          (omega (arith, inv.2, more.0)),
+    )
 
 pub loop-i-preserved : goal.loop-i-preserved
 loop-i-preserved c =
@@ -19,6 +23,8 @@ loop-i-preserved c =
     let la : i < length a = omega arith in
     let lb : i < length b = omega (arith, c.requires) in
     elim c.if-a-i.branch [
-      | then-a-i w ↦ let h = count_yes a b i la lb (omega (arith, w.if-a-i.true)) in (omega (arith, w.total-is, inv.0), omega (arith, w.total-is, inv.1, h))
-      | else-a-i w ↦ let h = count_no a b i la lb (omega (arith, w.if-a-i.false)) in (omega (arith, w.total-is, inv.0), omega (arith, w.total-is, inv.1, h))
+      | then-a-i w ↦ let h = count_yes a b i la lb (omega (arith, w.if-a-i.true)) in
+          (omega (arith, w.total-is, inv.0), omega (arith, w.total-is, inv.1, h))
+      | else-a-i w ↦ let h = count_no a b i la lb (omega (arith, w.if-a-i.false)) in
+          (omega (arith, w.total-is, inv.0), omega (arith, w.total-is, inv.1, h))
     ]

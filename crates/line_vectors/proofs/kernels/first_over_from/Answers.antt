@@ -13,9 +13,14 @@ returns-then-bits-ne0 c =
     let la : at + 8 ≤ length a = omega (arith, c.loop-at-test.true) in
     let lb : at + 8 ≤ length b = omega (arith, la, c.requires.lanes) in
     let P : ℕ → Type 0 = λ m. IsFirstOver a b (at + trailing_zeros w64 m) in
-    subst P (sym is) (first_in_block a b at la lb (λ e. c.if-bits-ne0.true (is ∙ e)) c.loop-at.invariant.1).1
+    subst P (sym is)
+    (first_in_block a b at la lb (λ e. c.if-bits-ne0.true (is ∙ e)) c.loop-at.invariant.1).1
 
 pub loop-at-preserved : goal.loop-at-preserved
 loop-at-preserved c =
-    let la : c.loop-at.at + 8 ≤ length c.args.a.now = omega (arith, c.loop-at-test.true) in
-    (la, none_in_block c.args.a.now c.args.b.now c.loop-at.at la (omega (arith, la, c.requires.lanes)) (sym c.over_bits-bits.ensures ∙ c.if-bits-ne0.false) c.loop-at.invariant.1)
+    let la : c.loop-at.at + 8 ≤ length c.args.a.now = omega (arith, c.loop-at-test.true) in (
+      la,
+      none_in_block c.args.a.now c.args.b.now c.loop-at.at la
+          (omega (arith, la, c.requires.lanes))
+          (sym c.over_bits-bits.ensures ∙ c.if-bits-ne0.false) c.loop-at.invariant.1,
+    )

@@ -15,5 +15,6 @@ with_required app = on_top (λ shape. record shape { subcommand_required = true 
 pub returns : goal.returns
 returns c =
     let told_is : app_of c.after_help.result ≡ with_version (new_app (codes "recline")) =
-    ap app_of_fields c.after_help.ensures ∙ (ap app_of_fields c.about.ensures ∙ (ap app_of_fields c.version.ensures ∙ ap with_version c.new.ensures.app)) in
+    ap app_of_fields c.after_help.ensures ∙ (ap app_of_fields c.about.ensures ∙
+    (ap app_of_fields c.version.ensures ∙ ap with_version c.new.ensures.app)) in
     ap app_of_fields c.subcommand_required.ensures ∙ ap with_required told_is

@@ -6,7 +6,8 @@ use Rattle.clap.specs.declared.builder.command.Command.{Command}
 use Rattle.line_words.proofs.commands.plain_command.Goals as goal
 
 pub returns-clause-shape : goal.returns-clause-shape
-returns-clause-shape c = ap app_of_fields c.after_help.ensures ∙ (ap app_of_fields c.about.ensures ∙ c.new.ensures.app)
+returns-clause-shape c =
+    ap app_of_fields c.after_help.ensures ∙ (ap app_of_fields c.about.ensures ∙ c.new.ensures.app)
 
 pub returns-clause-local : goal.returns-clause-local
 returns-clause-local c =

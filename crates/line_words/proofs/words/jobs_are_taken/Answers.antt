@@ -92,7 +92,8 @@ returns-clause-rounds c = (
       no_more = omega arith;
     },
     record {
-      spelled = ((omega arith, (omega arith, (omega arith, (omega arith, (omega arith, tt))))), refl);
+      spelled =
+          ((omega arith, (omega arith, (omega arith, (omega arith, (omega arith, tt))))), refl);
       no_less = omega arith;
       no_more = omega arith;
     },

@@ -13,7 +13,8 @@ returns-then-not-note_event-clause-value c =
     let i : ℕ = c.loop-i.i in (
       λ h. absurd (false≢true h),
       λ is. absurd (false≢true (sym c.if-not-note_event.true
-          ∙ (c.note_event.ensures.next c.args.last (take i events) c.loop-i.invariant.noted).1 (next_at c.args.last i events (event_of_ref c.at.result) c.at.ensures is))),
+          ∙ (c.note_event.ensures.next c.args.last (take i events) c.loop-i.invariant.noted).1
+          (next_at c.args.last i events (event_of_ref c.at.result) c.at.ensures is))),
     )
 
 pub loop-i-preserved : goal.loop-i-preserved
@@ -25,8 +26,11 @@ loop-i-preserved c =
     let more : take (i + 1) events ≡ take i events ++ e ∷ [] = take_event events i e c.at.ensures in
     record {
       count = c.note_event.ensures.count ∙ c.loop-i.invariant.count;
-      noted = subst (λ (es : List Event). AreRoundsNoted last es c.note_event.new.flags.items) (sym more)
-          (c.note_event.ensures.noted last (take i events) c.loop-i.invariant.noted c.if-not-note_event.false);
+      noted = subst (λ (es : List Event). AreRoundsNoted last es c.note_event.new.flags.items)
+          (sym more)
+          (c.note_event.ensures.noted last
+          (take i events) c.loop-i.invariant.noted c.if-not-note_event.false);
       follow = subst (HasRoundsUpTo last) (sym more)
-          (rounds_from last (take i events) e c.loop-i.invariant.follow ((c.note_event.ensures.next last (take i events) c.loop-i.invariant.noted).0 c.if-not-note_event.false));
+          (rounds_from last (take i events) e c.loop-i.invariant.follow ((c.note_event.ensures.next
+          last (take i events) c.loop-i.invariant.noted).0 c.if-not-note_event.false));
     }

@@ -5,4 +5,5 @@ use Rattle.line_world.specs.Machine.{start}
 use Rattle.line_world.proofs.laws.runs_name_apart.Goals as goal
 
 pub returns : goal.returns
-returns c = λ n mode steps answers machine run. (Run-names (start n mode) machine steps answers (no_later_start n) run).apart
+returns c = λ n mode steps answers machine run.
+    (Run-names (start n mode) machine steps answers (no_later_start n) run).apart

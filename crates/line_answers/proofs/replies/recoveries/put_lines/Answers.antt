@@ -25,4 +25,5 @@ returns-in_err-put_line g c =
 pub returns : goal.returns
 returns g c =
     let le : length c.args.choices.now ≤ c.loop-p.p = omega arith in
-    out_all tt (no_number_left (process_of c.args.choices.now c.args.incarnations.now c.args.states.now) (length c.args.choices.now) c.loop-p.p le) c.loop-p.invariant
+    out_all tt (no_number_left (process_of c.args.choices.now c.args.incarnations.now
+    c.args.states.now) (length c.args.choices.now) c.loop-p.p le) c.loop-p.invariant

@@ -8,5 +8,8 @@ use Rattle.line_answers.proofs.replies.recoveries.put_lines.Given as goal
 
 abbrev pub invariant-loop-p : goal.invariant-loop-p
 invariant-loop-p g l =
-    IsOut (g.K.Sink.taken l.fn.sink) (g.K.Sink.taken l.sink) (g.K.Sink.faults l.fn.sink) (g.K.Sink.faults l.sink) l.fn.writer l.writer (records_text (process_records l.choices l.incarnations l.states))
-    (records_text (map (process_of l.choices l.incarnations l.states) (drop l.p (range_with_len 0 (length l.choices)))))
+    IsOut (g.K.Sink.taken l.fn.sink) (g.K.Sink.taken l.sink) (g.K.Sink.faults l.fn.sink)
+    (g.K.Sink.faults l.sink) l.fn.writer l.writer
+    (records_text (process_records l.choices l.incarnations l.states))
+    (records_text (map (process_of l.choices l.incarnations l.states)
+    (drop l.p (range_with_len 0 (length l.choices)))))

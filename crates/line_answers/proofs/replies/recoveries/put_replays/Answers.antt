@@ -17,7 +17,8 @@ pub returns-in_err-put_numbers : goal.returns-in_err-put_numbers
 returns-in_err-put_numbers g c =
     let lt : c.loop-i.i < length c.args.replays.now = omega arith in
     let next = item_left replay_record c.args.replays.now c.loop-i.i _ lt c.index-replays-i.is in
-    out_front _ _ _ _ _ next c.loop-i.invariant (rw c.numbers_of.ensures at c.in_err-put_numbers.ensures) c.from_residual.ensures.1
+    out_front _ _ _ _ _ next c.loop-i.invariant
+    (rw c.numbers_of.ensures at c.in_err-put_numbers.ensures) c.from_residual.ensures.1
 
 pub returns : goal.returns
 returns g c =

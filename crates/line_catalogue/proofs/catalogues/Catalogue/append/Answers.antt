@@ -1,5 +1,6 @@
 -- The history takes the event, which agrees with it, and the rows tell of it.
-use Rattle.std.proofs.Common.{◌≡◌, ◌≢◌, ◌+◌, ◌<◌, ◌≤◌, ℕ, List, length, set, inl, inr, sym, ap, ◌∙◌, subst, arith}
+use Rattle.std.proofs.Common.{◌≡◌, ◌≢◌, ◌+◌, ◌<◌, ◌≤◌, ℕ, List, length, set, inl, inr, sym, ap, ◌∙◌}
+use Rattle.std.proofs.Common.{subst, arith}
 use Rattle.std.proofs.lemmas.Bool.{cases_lt}
 use Rattle.line_tape.specs.declared.events.Event.{Event}
 use Rattle.line_tape.specs.declared.limits.TheConstants.{MOST_EVENTS}
@@ -16,17 +17,23 @@ use Rattle.line_catalogue.proofs.CatalogueLemmas.{IsCatalogue-event, length-pres
 use Rattle.line_catalogue.proofs.catalogues.Catalogue.append.Goals as goal
 
 pub append-requires-2-clause-process : goal.append-requires-2-clause-process
-append-requires-2-clause-process c = omega (arith, c.requires.process, ap (λ (v : CatalogueView). length v.processes) c.self.view_is)
+append-requires-2-clause-process c =
+    omega (arith, c.requires.process, ap (λ (v : CatalogueView). length v.processes) c.self.view_is)
 
 pub append-requires-2-clause-named : goal.append-requires-2-clause-named
-append-requires-2-clause-named c = subst (λ (v : CatalogueView). NamesBelow (length v.processes) c.args.event) (sym c.self.view_is) c.requires.named
+append-requires-2-clause-named c = subst (λ (v : CatalogueView). NamesBelow
+    (length v.processes) c.args.event) (sym c.self.view_is) c.requires.named
 
 pub append-requires-2-clause-few : goal.append-requires-2-clause-few
 append-requires-2-clause-few c =
     let history : List Process = c.self.inside.ledger.processes in
-    let tape_is : c.tape.result.now.events ≡ tape_at history c.args.p = c.tape.ensures.events ∙ ap (λ (v : HistoryView). tape_at v.processes c.args.p) c.history.ensures in
-    let few : length (tape_at history c.args.p) ≢ MOST_EVENTS = subst (λ (v : CatalogueView). length (tape_at v.processes c.args.p) ≢ MOST_EVENTS) (sym c.self.view_is) c.requires.few in
-    let most : length (tape_at history c.args.p) ≤ MOST_EVENTS = subst (λ (v : HistoryView). length (tape_at v.processes c.args.p) ≤ MOST_EVENTS) c.history.ensures c.tape.ensures.limits.tape.few in
+    let tape_is : c.tape.result.now.events ≡ tape_at history c.args.p = c.tape.ensures.events ∙ ap
+    (λ (v : HistoryView). tape_at v.processes c.args.p) c.history.ensures in
+    let few : length (tape_at history c.args.p) ≢ MOST_EVENTS = subst (λ (v : CatalogueView). length
+    (tape_at v.processes c.args.p) ≢ MOST_EVENTS) (sym c.self.view_is) c.requires.few in
+    let most : length (tape_at history c.args.p) ≤ MOST_EVENTS = subst
+    (λ (v : HistoryView). length (tape_at v.processes c.args.p) ≤ MOST_EVENTS) c.history.ensures
+    c.tape.ensures.limits.tape.few in
     elim (cases_lt (length (tape_at history c.args.p)) MOST_EVENTS) [
       | inl less ↦ less
       | inr past ↦ absurd (few (omega (arith, most, past)))
@@ -34,15 +41,26 @@ append-requires-2-clause-few c =
 
 pub append-requires-2-clause-room : goal.append-requires-2-clause-room
 append-requires-2-clause-room c =
-    omega (arith, c.requires.room, ap (λ (v : CatalogueView). catalogue_room_at v c.args.p) c.self.view_is, lesser_at c.self.inside.ledger.rooms c.self.inside.rows.rooms c.args.p)
+    omega (
+      arith,
+      c.requires.room,
+      ap (λ (v : CatalogueView). catalogue_room_at v c.args.p)
+          c.self.view_is,
+      lesser_at c.self.inside.ledger.rooms c.self.inside.rows.rooms c.args.p,
+    )
 
 pub append-requires-clause-short : goal.append-requires-clause-short
 append-requires-clause-short c =
     let history : List Process = c.self.inside.ledger.processes in
-    let tape_is : c.tape.result.now.events ≡ tape_at history c.args.p = c.tape.ensures.events ∙ ap (λ (v : HistoryView). tape_at v.processes c.args.p) c.history.ensures in
-    let few : length (tape_at history c.args.p) ≢ MOST_EVENTS = subst (λ (v : CatalogueView). length (tape_at v.processes c.args.p) ≢ MOST_EVENTS) (sym c.self.view_is) c.requires.few in
-    let most : length (tape_at history c.args.p) ≤ MOST_EVENTS = subst (λ (v : HistoryView). length (tape_at v.processes c.args.p) ≤ MOST_EVENTS) c.history.ensures c.tape.ensures.limits.tape.few in
-    let same : length c.tape.result.now.events ≡ length (tape_at history c.args.p) = ap (λ (es : List Event). length es) tape_is in
+    let tape_is : c.tape.result.now.events ≡ tape_at history c.args.p = c.tape.ensures.events ∙ ap
+    (λ (v : HistoryView). tape_at v.processes c.args.p) c.history.ensures in
+    let few : length (tape_at history c.args.p) ≢ MOST_EVENTS = subst (λ (v : CatalogueView). length
+    (tape_at v.processes c.args.p) ≢ MOST_EVENTS) (sym c.self.view_is) c.requires.few in
+    let most : length (tape_at history c.args.p) ≤ MOST_EVENTS = subst
+    (λ (v : HistoryView). length (tape_at v.processes c.args.p) ≤ MOST_EVENTS) c.history.ensures
+    c.tape.ensures.limits.tape.few in
+    let same : length c.tape.result.now.events
+    ≡ length (tape_at history c.args.p) = ap (λ (es : List Event). length es) tape_is in
     elim (cases_lt (length (tape_at history c.args.p)) MOST_EVENTS) [
       | inl less ↦ omega (arith, less, same)
       | inr past ↦ absurd (few (omega (arith, most, past)))
@@ -52,10 +70,19 @@ pub append-requires-clause-few : goal.append-requires-clause-few
 append-requires-clause-few c =
     let history : List Process = c.self.inside.ledger.processes in
     let p : ℕ = c.args.p in
-    let tape_is : c.tape.result.now.events ≡ tape_at history p = c.tape.ensures.events ∙ ap (λ (v : HistoryView). tape_at v.processes p) c.history.ensures in
-    let few : length (tape_at history p) ≢ MOST_EVENTS = subst (λ (v : CatalogueView). length (tape_at v.processes p) ≢ MOST_EVENTS) (sym c.self.view_is) c.requires.few in
-    let most : length (tape_at history p) ≤ MOST_EVENTS = subst (λ (v : HistoryView). length (tape_at v.processes c.args.p) ≤ MOST_EVENTS) c.history.ensures c.tape.ensures.limits.tape.few in
-    let within : p < length history = omega (arith, c.requires.process, ap (λ (v : CatalogueView). length v.processes) c.self.view_is) in
+    let tape_is : c.tape.result.now.events ≡ tape_at history p = c.tape.ensures.events ∙ ap
+    (λ (v : HistoryView). tape_at v.processes p) c.history.ensures in
+    let few : length (tape_at history p) ≢ MOST_EVENTS = subst (λ (v : CatalogueView). length
+    (tape_at v.processes p) ≢ MOST_EVENTS) (sym c.self.view_is) c.requires.few in
+    let most : length (tape_at history p) ≤ MOST_EVENTS = subst
+    (λ (v : HistoryView). length (tape_at v.processes c.args.p) ≤ MOST_EVENTS) c.history.ensures
+    c.tape.ensures.limits.tape.few in
+    let within : p < length history = omega (
+      arith,
+      c.requires.process,
+      ap
+          (λ (v : CatalogueView). length v.processes) c.self.view_is,
+    ) in
     let count = (c.self.invariant.shown p within).count in
     elim (cases_lt (length (tape_at history p)) MOST_EVENTS) [
       | inl less ↦ omega (arith, less, checks_le (tape_at history p), count)
@@ -65,9 +92,14 @@ append-requires-clause-few c =
 pub append-requires-clause-named : goal.append-requires-clause-named
 append-requires-clause-named c =
     let history : List Process = c.self.inside.ledger.processes in
-    let seen : history ≡ c.args.self.now.processes = ap (λ (v : CatalogueView). v.processes) c.self.view_is in
-    let within : c.args.p < length history = omega (arith, c.requires.process, ap (λ (xs : List Process). length xs) seen) in
-    let long : length (present_at c.self.inside.rows.presents c.args.p) ≡ length c.args.self.now.processes = length-present history c.self.inside.marks c.self.inside.rows.rows c.self.inside.rows.presents c.args.p within c.self.invariant ∙ ap (λ (xs : List Process). length xs) seen in
+    let seen : history
+    ≡ c.args.self.now.processes = ap (λ (v : CatalogueView). v.processes) c.self.view_is in
+    let within : c.args.p < length history = omega
+    (arith, c.requires.process, ap (λ (xs : List Process). length xs) seen) in
+    let long : length (present_at c.self.inside.rows.presents c.args.p)
+    ≡ length c.args.self.now.processes = length-present history c.self.inside.marks
+    c.self.inside.rows.rows c.self.inside.rows.presents c.args.p within c.self.invariant ∙ ap
+    (λ (xs : List Process). length xs) seen in
     let lanes : ℕ = length (present_at c.self.inside.rows.presents c.args.p) in
     subst (λ k. NamesBelow k c.args.event) (sym long) c.requires.named
 
@@ -79,20 +111,33 @@ invariant_of-self c =
     let presents : List (List ℕ) = c.self.inside.rows.presents in
     let p : ℕ = c.args.p in
     let event : Event = c.args.event in
-    let seen : history ≡ c.args.self.now.processes = ap (λ (v : CatalogueView). v.processes) c.self.view_is in
-    let within : p < length history = omega (arith, c.requires.process, ap (λ (xs : List Process). length xs) seen) in
-    let named : NamesBelow (length history) event = subst (λ (xs : List Process). NamesBelow (length xs) event) (sym seen) c.requires.named in
-    let next : AgreesNext history p event = subst (λ (xs : List Process). AgreesNext xs p event) (sym seen) c.requires.agrees in
-    let tape_is : c.tape.result.now.events ≡ tape_at history p = c.tape.ensures.events ∙ ap (λ (v : HistoryView). tape_at v.processes p) c.history.ensures in
+    let seen : history
+    ≡ c.args.self.now.processes = ap (λ (v : CatalogueView). v.processes) c.self.view_is in
+    let within : p < length history = omega
+    (arith, c.requires.process, ap (λ (xs : List Process). length xs) seen) in
+    let named : NamesBelow (length history) event = subst
+    (λ (xs : List Process). NamesBelow (length xs) event) (sym seen) c.requires.named in
+    let next : AgreesNext history p event = subst (λ (xs : List Process). AgreesNext xs p event)
+    (sym seen) c.requires.agrees in
+    let tape_is : c.tape.result.now.events ≡ tape_at history p = c.tape.ensures.events ∙ ap
+    (λ (v : HistoryView). tape_at v.processes p) c.history.ensures in
     let place : ℕ = length c.tape.result.now.events + 1 in
     let sent : ℕ = sends c.tape.result.now.events in
-    let place_is : place ≡ length (tape_at history p) + 1 = ap (λ (es : List Event). length es + 1) tape_is in
+    let place_is : place
+    ≡ length (tape_at history p) + 1 = ap (λ (es : List Event). length es + 1) tape_is in
     let sent_is : sent ≡ sends (tape_at history p) = ap sends tape_is in
     let present : List ℕ = present_at presents p in
-    let rows_are : c.append.new.self.rows ≡ set rows p (with_row (rows_at rows p) (row_added place sent present event)) = c.append.ensures.rows in
-    let presents_are : c.append.new.self.presents ≡ set presents p (vector_after_event present event) = c.append.ensures.presents in
-    let grown : c.append-2.new.self.processes ≡ with_event history p event = c.append-2.ensures.processes in
-    subst (λ (xs : List Process). IsCatalogue xs marks c.append.new.self.rows c.append.new.self.presents) (sym grown)
-    (subst (λ (ys : List (List ℕ)). IsCatalogue (with_event history p event) marks c.append.new.self.rows ys) (sym presents_are)
-    (subst (λ (xs : List (List Row)). IsCatalogue (with_event history p event) marks xs (set presents p (vector_after_event (present_at presents p) event))) (sym rows_are)
-    (IsCatalogue-event history marks rows presents p within event place sent place_is sent_is named next c.self.invariant)))
+    let rows_are : c.append.new.self.rows ≡ set rows p
+    (with_row (rows_at rows p) (row_added place sent present event)) = c.append.ensures.rows in
+    let presents_are : c.append.new.self.presents
+    ≡ set presents p (vector_after_event present event) = c.append.ensures.presents in
+    let grown : c.append-2.new.self.processes
+    ≡ with_event history p event = c.append-2.ensures.processes in
+    subst (λ (xs : List Process). IsCatalogue xs marks c.append.new.self.rows
+    c.append.new.self.presents) (sym grown)
+    (subst (λ (ys : List (List ℕ)). IsCatalogue
+    (with_event history p event) marks c.append.new.self.rows ys) (sym presents_are)
+    (subst (λ (xs : List (List Row)). IsCatalogue (with_event history p event) marks xs
+    (set presents p (vector_after_event (present_at presents p) event))) (sym rows_are)
+    (IsCatalogue-event history marks rows presents p within event place sent place_is sent_is named
+    next c.self.invariant)))

@@ -14,17 +14,30 @@ use Rattle.line_catalogue.proofs.CatalogueLemmas.{IsCatalogue-event, lesser_at}
 use Rattle.line_catalogue.proofs.catalogues.Catalogue.append_send.Goals as goal
 
 pub append_send-requires-clause-process : goal.append_send-requires-clause-process
-append_send-requires-clause-process c = omega (arith, c.requires.process, ap (λ (v : CatalogueView). length v.processes) c.self.view_is)
+append_send-requires-clause-process c =
+    omega (arith, c.requires.process, ap (λ (v : CatalogueView). length v.processes) c.self.view_is)
 
 pub append_send-requires-clause-to : goal.append_send-requires-clause-to
-append_send-requires-clause-to c = omega (arith, c.requires.to, ap (λ (v : CatalogueView). length v.processes) c.self.view_is)
+append_send-requires-clause-to c =
+    omega (arith, c.requires.to, ap (λ (v : CatalogueView). length v.processes) c.self.view_is)
 
 pub append_send-requires-clause-few : goal.append_send-requires-clause-few
-append_send-requires-clause-few c = omega (arith, c.requires.few, ap (λ (v : CatalogueView). length (tape_at v.processes c.args.p)) c.self.view_is)
+append_send-requires-clause-few c = omega (
+  arith,
+  c.requires.few,
+  ap
+      (λ (v : CatalogueView). length (tape_at v.processes c.args.p)) c.self.view_is,
+)
 
 pub append_send-requires-clause-room : goal.append_send-requires-clause-room
 append_send-requires-clause-room c =
-    omega (arith, c.requires.room, ap (λ (v : CatalogueView). catalogue_room_at v c.args.p) c.self.view_is, lesser_at c.self.inside.ledger.rooms c.self.inside.rows.rooms c.args.p)
+    omega (
+      arith,
+      c.requires.room,
+      ap (λ (v : CatalogueView). catalogue_room_at v c.args.p)
+          c.self.view_is,
+      lesser_at c.self.inside.ledger.rooms c.self.inside.rows.rooms c.args.p,
+    )
 
 pub invariant_of-self : goal.invariant_of-self
 invariant_of-self c =
@@ -35,11 +48,18 @@ invariant_of-self c =
     let p : ℕ = c.args.p in
     let event : Event = (Send c.args.to c.args.inc c.args.body.now) in
     let after : List Process = with_event history p event in
-    let seen : history ≡ c.args.self.now.processes = ap (λ (v : CatalogueView). v.processes) c.self.view_is in
-    let within : p < length history = omega (arith, c.requires.process, ap (λ (xs : List Process). length xs) seen) in
-    let named : NamesBelow (length history) event = subst (λ (xs : List Process). NamesBelow (length xs) event) (sym seen) c.requires.to in
-    let next : AgreesNext history p event = subst (λ (xs : List Process). AgreesNext xs p event) (sym seen) c.requires.agrees in
-    subst (λ (xs : List Process). IsCatalogue xs marks rows presents) (sym c.append_send.ensures.processes)
+    let seen : history
+    ≡ c.args.self.now.processes = ap (λ (v : CatalogueView). v.processes) c.self.view_is in
+    let within : p < length history = omega
+    (arith, c.requires.process, ap (λ (xs : List Process). length xs) seen) in
+    let named : NamesBelow (length history) event = subst
+    (λ (xs : List Process). NamesBelow (length xs) event) (sym seen) c.requires.to in
+    let next : AgreesNext history p event = subst (λ (xs : List Process). AgreesNext xs p event)
+    (sym seen) c.requires.agrees in
+    subst (λ (xs : List Process). IsCatalogue xs marks rows presents)
+    (sym c.append_send.ensures.processes)
     (subst (λ (ys : List (List ℕ)). IsCatalogue after marks rows ys) (set-get_or presents p [])
-    (subst (λ (xs : List (List Row)). IsCatalogue after marks xs (set presents p (present_at presents p))) (set-get_or rows p [])
-    (IsCatalogue-event history marks rows presents p within event (length (tape_at history p) + 1) (sends (tape_at history p)) refl refl named next c.self.invariant)))
+    (subst (λ (xs : List (List Row)). IsCatalogue after marks xs
+    (set presents p (present_at presents p))) (set-get_or rows p [])
+    (IsCatalogue-event history marks rows presents p within event (length (tape_at history p) + 1)
+    (sends (tape_at history p)) refl refl named next c.self.invariant)))

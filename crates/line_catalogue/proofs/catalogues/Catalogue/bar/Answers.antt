@@ -17,11 +17,20 @@ invariant_of-self c =
     let marks : MarksView = c.self.inside.marks in
     let rows : List (List Row) = c.self.inside.rows.rows in
     let presents : List (List ℕ) = c.self.inside.rows.presents in
-    let within : c.args.p < length history = omega (arith, c.requires, ap (λ (v : CatalogueView). length v.processes) c.self.view_is) in
-    let there : c.args.check ≤ checks (tape_at history c.args.p) = omega (arith, c.if-len-check.false, c.len.ensures, ap (λ (xs : List Row). length xs) c.at.ensures, (c.self.invariant.shown c.args.p within).count) in
+    let within : c.args.p < length history = omega
+    (arith, c.requires, ap (λ (v : CatalogueView). length v.processes) c.self.view_is) in
+    let there : c.args.check ≤ checks (tape_at history c.args.p) = omega (
+      arith,
+      c.if-len-check.false,
+      c.len.ensures,
+      ap (λ (xs : List Row). length xs) c.at.ensures,
+      (c.self.invariant.shown c.args.p within).count,
+    ) in
     let kept : MarksView → Type 0 = λ m. IsCatalogue history m rows presents in
     elim c.bar.result
-    as (λ (r : Result Unit BarError). OnOk r (c.bar.new.self ≡ with_bar marks c.args.p c.args.check) → OnErr r (c.bar.new.self ≡ marks) → kept c.bar.new.self) [
-      | Ok u ↦ (λ done refused. subst kept (sym done) (IsCatalogue-bar history marks rows presents c.args.p within c.args.check there c.self.invariant))
+    as (λ (r : Result Unit BarError). OnOk r (c.bar.new.self ≡ with_bar marks c.args.p c.args.check)
+    → OnErr r (c.bar.new.self ≡ marks) → kept c.bar.new.self) [
+      | Ok u ↦ (λ done refused. subst kept (sym done) (IsCatalogue-bar history marks rows presents
+          c.args.p within c.args.check there c.self.invariant))
       | Err e ↦ (λ done refused. subst kept (sym refused) c.self.invariant)
     ] c.bar.ensures.ok c.bar.ensures.err

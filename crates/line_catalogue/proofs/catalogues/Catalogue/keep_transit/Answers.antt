@@ -6,4 +6,5 @@ use Rattle.line_catalogue.proofs.catalogues.Catalogue.keep_transit.Goals as goal
 
 pub invariant_of-self : goal.invariant_of-self
 invariant_of-self c =
-    subst (λ (v : HistoryView). IsCatalogue v.processes c.self.inside.marks c.self.inside.rows.rows c.self.inside.rows.presents) (sym c.keep.ensures) c.self.invariant
+    subst (λ (v : HistoryView). IsCatalogue v.processes c.self.inside.marks c.self.inside.rows.rows
+    c.self.inside.rows.presents) (sym c.keep.ensures) c.self.invariant

@@ -16,14 +16,19 @@ invariant_of-result c =
     let history : List Process = c.in_ok-history.history.processes in
     let marks : MarksView = c.in_ok-marks.marks in
     let none : history ≡ replicate n fresh = c.in_ok-history.ensures.ok in
-    let unmarked : marks.damaged ≡ replicate n [] = ap (λ (m : MarksView). m.damaged) c.in_ok-marks.ensures in
-    let made : IsCatalogue history marks c.in_ok-rows.rows.rows c.in_ok-rows.rows.presents = record {
+    let unmarked : marks.damaged
+    ≡ replicate n [] = ap (λ (m : MarksView). m.damaged)
+    c.in_ok-marks.ensures in
+    let made : IsCatalogue history marks c.in_ok-rows.rows.rows
+    c.in_ok-rows.rows.presents = record {
       agrees = subst Agrees (sym none) (Agrees-fresh n);
       marked = AreOnChecks-none history marks n c.in_ok-marks.ensures;
-      marks_count = ap (λ (xs : List (List ℕ)). length xs) unmarked ∙ length-replicate n [] ∙ sym (ap (λ (xs : List Process). length xs) none ∙ length-replicate n fresh);
+      marks_count = ap (λ (xs : List (List ℕ)). length xs) unmarked ∙ length-replicate n [] ∙ sym
+          (ap (λ (xs : List Process). length xs) none ∙ length-replicate n fresh);
       rows_count = c.in_ok-rows.ensures.count;
       presents_count = c.in_ok-rows.ensures.presents;
       shown = c.in_ok-rows.ensures.shown;
       heard = c.in_ok-rows.ensures.heard;
     } in
-    subst (λ (v : HistoryView). IsCatalogue v.processes marks c.in_ok-rows.rows.rows c.in_ok-rows.rows.presents) (sym c.in_ok-ledger.ensures) made
+    subst (λ (v : HistoryView). IsCatalogue v.processes marks c.in_ok-rows.rows.rows
+    c.in_ok-rows.rows.presents) (sym c.in_ok-ledger.ensures) made

@@ -9,5 +9,13 @@ use Rattle.line_catalogue.proofs.ledgers.Ledger.append_mark.Goals as goal
 
 pub invariant_of-self : goal.invariant_of-self
 invariant_of-self c =
-    subst (λ (h : List Process). IsLedger h c.self.inside.starts.items c.self.inside.places.items c.self.inside.left.items c.self.inside.closed) (sym c.append_mark.ensures.processes)
-    (IsLedger-event c.self.inside.history.processes c.self.inside.starts.items c.self.inside.places.items c.self.inside.left.items c.self.inside.closed c.args.p (Mark c.args.from c.args.round) (omega (arith, c.requires.process, ap (λ (v : HistoryView). length v.processes) c.self.view_is)) c.self.invariant)
+    subst (λ (h : List Process). IsLedger h c.self.inside.starts.items c.self.inside.places.items
+    c.self.inside.left.items c.self.inside.closed) (sym c.append_mark.ensures.processes)
+    (IsLedger-event c.self.inside.history.processes c.self.inside.starts.items
+    c.self.inside.places.items c.self.inside.left.items c.self.inside.closed c.args.p
+    (Mark c.args.from c.args.round) (omega (
+      arith,
+      c.requires.process,
+      ap
+          (λ (v : HistoryView). length v.processes) c.self.view_is,
+    )) c.self.invariant)

@@ -15,6 +15,11 @@ invariant_of-self c =
     let line : List Choice = c.args.line.now in
     let starts : List ℕ = c.move_starts.new.starts.items in
     let places : List ℕ = c.move_places.new.places.items in
-    let seen : history ≡ c.args.self.now.processes = ap (λ (v : HistoryView). v.processes) c.self.view_is in
-    let told : c.args.messages.items ≡ in_transit history line = c.requires.transit ∙ ap (λ (h : List Process). in_transit h line) (sym seen) in
-    IsLedger-open history starts places c.args.messages.items (subst (λ (left : List MsgName). AreLeft history starts places left) (sym told) (AreLeft-line history line starts places c.move_starts.ensures.count c.move_places.ensures.count c.move_starts.ensures.starts c.move_places.ensures.places))
+    let seen : history
+    ≡ c.args.self.now.processes = ap (λ (v : HistoryView). v.processes) c.self.view_is in
+    let told : c.args.messages.items ≡ in_transit history line = c.requires.transit ∙ ap
+    (λ (h : List Process). in_transit h line) (sym seen) in
+    IsLedger-open history starts places c.args.messages.items
+    (subst (λ (left : List MsgName). AreLeft history starts places left) (sym told)
+    (AreLeft-line history line starts places c.move_starts.ensures.count
+    c.move_places.ensures.count c.move_starts.ensures.starts c.move_places.ensures.places))

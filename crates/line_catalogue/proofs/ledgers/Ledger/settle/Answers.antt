@@ -13,4 +13,5 @@ invariant_of-self c =
     let starts : List ℕ = c.in-Ok.settled.starts.items in
     let places : List ℕ = c.move_places.new.places.items in
     let left : List MsgName = c.in-Ok.settled.left.items in
-    IsLedger-open history starts places left (AreLeft-settled history line starts places left c.in-Ok.ensures c.move_places.ensures.count c.move_places.ensures.places)
+    IsLedger-open history starts places left (AreLeft-settled history line starts places left
+    c.in-Ok.ensures c.move_places.ensures.count c.move_places.ensures.places)

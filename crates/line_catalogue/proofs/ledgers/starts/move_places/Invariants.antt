@@ -8,5 +8,6 @@ use Rattle.line_catalogue.proofs.ledgers.starts.move_places.Given as goal
 abbrev pub invariant-loop-q : goal.invariant-loop-q
 invariant-loop-q l = record {
   count : length l.places.items ≡ length l.history.processes;
-  moved : (p : ℕ) → p < l.q → place_at l.places.items p ≡ place (tape_at l.history.processes p) (choice_at l.line p);
+  moved : (p : ℕ) → p < l.q
+      → place_at l.places.items p ≡ place (tape_at l.history.processes p) (choice_at l.line p);
 }

@@ -7,5 +7,6 @@ use Rattle.line_catalogue.proofs.ledgers.starts.move_starts.Given as goal
 abbrev pub invariant-loop-q : goal.invariant-loop-q
 invariant-loop-q l = record {
   count : length l.starts.items ≡ length l.history.processes;
-  moved : (p : ℕ) → p < l.q → start_at l.starts.items p ≡ sends (events_before l.history.processes l.line p);
+  moved : (p : ℕ) → p < l.q
+      → start_at l.starts.items p ≡ sends (events_before l.history.processes l.line p);
 }

@@ -13,6 +13,8 @@ invariant-loop-q l = record {
   count : length l.table.items ≡ l.q;
   len : vec_len l.table ≡ l.q;
   room : l.n ≤ vec_capacity l.table;
-  shown : (p : ℕ) → p < l.q → AreRows l.n (tape_at l.history.processes p) (damaged_at l.marks p) (rows_at (map check_rows_of l.table.items) p);
-  heard : (p : ℕ) → p < l.q → present_at (map present_of l.table.items) p ≡ reach_of l.n (tape_at l.history.processes p);
+  shown : (p : ℕ) → p < l.q → AreRows l.n (tape_at l.history.processes p) (damaged_at l.marks p)
+      (rows_at (map check_rows_of l.table.items) p);
+  heard : (p : ℕ) → p < l.q
+      → present_at (map present_of l.table.items) p ≡ reach_of l.n (tape_at l.history.processes p);
 }

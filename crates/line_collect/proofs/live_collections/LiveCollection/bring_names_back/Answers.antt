@@ -9,11 +9,16 @@ use Rattle.line_collect.proofs.live_collections.LiveCollection.bring_names_back.
 
 pub bring_names_back-requires-clause-told : goal.bring_names_back-requires-clause-told
 bring_names_back-requires-clause-told c =
-    let live : LiveCollectionView = record { floor = c.self.inside.floor; kept = c.self.inside.kept } in
-    let limits : IsHistory live.kept.history = subst IsHistory c.history.ensures.value c.n-n.ensures.limits in
-    let is : IsPlanToGoBack live.kept c.args.failed.now c.args.plan.now = subst (λ (l : LiveCollectionView). IsPlanToGoBack l.kept c.args.failed.now c.args.plan.now) (sym c.self.view_is) c.requires in
+    let live : LiveCollectionView = record
+    { floor = c.self.inside.floor; kept = c.self.inside.kept } in
+    let limits : IsHistory live.kept.history = subst IsHistory c.history.ensures.value
+    c.n-n.ensures.limits in
+    let is : IsPlanToGoBack live.kept c.args.failed.now c.args.plan.now = subst
+    (λ (l : LiveCollectionView). IsPlanToGoBack l.kept c.args.failed.now c.args.plan.now)
+    (sym c.self.view_is) c.requires in
     plan_told live c.args.failed.now c.args.plan.now limits c.self.invariant is.plan_is
 
 pub returns : goal.returns
 returns c =
-    subst (λ (l : LiveCollectionView). c.bring_names_back.new.plan ≡ record (whole_plan l.floor c.args.plan.now) { line = c.args.plan.now.line }) c.self.view_is c.bring_names_back.ensures
+    subst (λ (l : LiveCollectionView). c.bring_names_back.new.plan ≡ record (whole_plan l.floor
+    c.args.plan.now) { line = c.args.plan.now.line }) c.self.view_is c.bring_names_back.ensures

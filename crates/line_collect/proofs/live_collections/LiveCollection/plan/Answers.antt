@@ -8,12 +8,18 @@ use Rattle.line_collect.proofs.live_collections.LiveCollection.plan.Goals as goa
 
 pub bring_plan_back-requires-clause-told : goal.bring_plan_back-requires-clause-told
 bring_plan_back-requires-clause-told c =
-    let live : LiveCollectionView = record { floor = c.self.inside.floor; kept = c.self.inside.kept } in
-    let limits : IsHistory live.kept.history = subst IsHistory c.history.ensures.value c.n-n.ensures.limits in
-    plan_told live c.args.failed.now c.in_ok-plan.plan limits c.self.invariant c.in_ok-plan.ensures.plan.plan_is
+    let live : LiveCollectionView = record
+    { floor = c.self.inside.floor; kept = c.self.inside.kept } in
+    let limits : IsHistory live.kept.history = subst IsHistory c.history.ensures.value
+    c.n-n.ensures.limits in
+    plan_told live c.args.failed.now c.in_ok-plan.plan limits c.self.invariant
+    c.in_ok-plan.ensures.plan.plan_is
 
 pub returns-clause-plan : goal.returns-clause-plan
 returns-clause-plan c =
-    let live : LiveCollectionView = record { floor = c.self.inside.floor; kept = c.self.inside.kept } in
-    subst (λ (l : LiveCollectionView). IsLivePlan l c.args.failed.now c.bring_plan_back.new.plan) c.self.view_is
-    (planned live c.args.failed.now c.bring_plan_back.new.plan c.in_ok-plan.plan c.in_ok-plan.ensures.plan c.bring_plan_back.ensures)
+    let live : LiveCollectionView = record
+    { floor = c.self.inside.floor; kept = c.self.inside.kept } in
+    subst (λ (l : LiveCollectionView). IsLivePlan l c.args.failed.now c.bring_plan_back.new.plan)
+    c.self.view_is
+    (planned live c.args.failed.now c.bring_plan_back.new.plan c.in_ok-plan.plan
+    c.in_ok-plan.ensures.plan c.bring_plan_back.ensures)

@@ -6,6 +6,9 @@ use Rattle.line_collect.proofs.live_collections.LiveCollection.receive.Goals as 
 
 pub invariant_of-self : goal.invariant_of-self
 invariant_of-self c =
-    let live : LiveCollectionView = record { floor = c.self.inside.floor; kept = c.self.inside.kept } in
-    let by : c.args.by < length live.kept.history = subst (λ (l : LiveCollectionView). c.args.by < length l.kept.history) (sym c.self.view_is) c.requires.by in
-    takes_told live c.self.invariant (reports.Receive c.args.by c.args.incarnation c.in-Some.kept) c.receive.result c.receive.new.self (by, c.in-Some.ensures.numbered) c.receive.ensures
+    let live : LiveCollectionView = record
+    { floor = c.self.inside.floor; kept = c.self.inside.kept } in
+    let by : c.args.by < length live.kept.history = subst (λ (l : LiveCollectionView). c.args.by <
+    length l.kept.history) (sym c.self.view_is) c.requires.by in
+    takes_told live c.self.invariant (reports.Receive c.args.by c.args.incarnation c.in-Some.kept)
+    c.receive.result c.receive.new.self (by, c.in-Some.ensures.numbered) c.receive.ensures

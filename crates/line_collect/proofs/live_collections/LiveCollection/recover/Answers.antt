@@ -11,18 +11,27 @@ use Rattle.line_collect.proofs.live_collections.LiveCollection.recover.Goals as 
 
 pub bring_plan_back-requires-clause-told : goal.bring_plan_back-requires-clause-told
 bring_plan_back-requires-clause-told c =
-    let live : LiveCollectionView = record { floor = c.self.inside.floor; kept = c.self.inside.kept } in
-    let limits : IsHistory live.kept.history = subst IsHistory c.history.ensures.value c.n-n.ensures.limits in
-    plan_told live c.args.failed.now c.in_ok-plan.plan limits c.self.invariant c.in_ok-plan.ensures.plan.plan_is
+    let live : LiveCollectionView = record
+    { floor = c.self.inside.floor; kept = c.self.inside.kept } in
+    let limits : IsHistory live.kept.history = subst IsHistory c.history.ensures.value
+    c.n-n.ensures.limits in
+    plan_told live c.args.failed.now c.in_ok-plan.plan limits c.self.invariant
+    c.in_ok-plan.ensures.plan.plan_is
 
 pub invariant_of-self : goal.invariant_of-self
 invariant_of-self c =
-    let live : LiveCollectionView = record { floor = c.self.inside.floor; kept = c.self.inside.kept } in
-    subst (λ (k : CollectionView). HasWholeNumbers (record { floor = c.self.inside.floor; kept = k })) (sym c.go_on.ensures)
-    (restart_told live c.self.invariant c.in_ok-plan.plan.line c.in_ok-plan.ensures.plan.plan_is.latest.recoverable.length_is)
+    let live : LiveCollectionView = record
+    { floor = c.self.inside.floor; kept = c.self.inside.kept } in
+    subst (λ (k : CollectionView). HasWholeNumbers
+    (record { floor = c.self.inside.floor; kept = k })) (sym c.go_on.ensures)
+    (restart_told live c.self.invariant c.in_ok-plan.plan.line
+    c.in_ok-plan.ensures.plan.plan_is.latest.recoverable.length_is)
 
 pub returns-clause-done : goal.returns-clause-done
 returns-clause-done c =
-    let live : LiveCollectionView = record { floor = c.self.inside.floor; kept = c.self.inside.kept } in
-    subst (λ (l : LiveCollectionView). RecoversLive l c.args.failed.now c.bring_plan_back.new.plan (record { floor = c.self.inside.floor; kept = c.go_on.new.self })) c.self.view_is
-    (recovered live c.args.failed.now c.bring_plan_back.new.plan c.in_ok-plan.plan c.go_on.new.self c.in_ok-plan.ensures.plan c.bring_plan_back.ensures c.go_on.ensures)
+    let live : LiveCollectionView = record
+    { floor = c.self.inside.floor; kept = c.self.inside.kept } in
+    subst (λ (l : LiveCollectionView). RecoversLive l c.args.failed.now c.bring_plan_back.new.plan
+    (record { floor = c.self.inside.floor; kept = c.go_on.new.self })) c.self.view_is
+    (recovered live c.args.failed.now c.bring_plan_back.new.plan c.in_ok-plan.plan c.go_on.new.self
+    c.in_ok-plan.ensures.plan c.bring_plan_back.ensures c.go_on.ensures)

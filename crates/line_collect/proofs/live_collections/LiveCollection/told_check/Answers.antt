@@ -9,7 +9,11 @@ use Rattle.line_collect.proofs.live_collections.LiveCollection.told_check.Goals 
 
 pub told_check-requires-clause-few : goal.told_check-requires-clause-few
 told_check-requires-clause-few c =
-    let live : LiveCollectionView = record { floor = c.self.inside.floor; kept = c.self.inside.kept } in
-    let limits : IsHistory live.kept.history = subst IsHistory c.history.ensures.value c.n-n.ensures.limits in
-    let there : HasChoice (tape_at live.kept.history c.args.p) (AtCheck c.args.check) = subst (λ (l : LiveCollectionView). HasChoice (tape_at l.kept.history c.args.p) (AtCheck c.args.check)) (sym c.self.view_is) c.requires in
+    let live : LiveCollectionView = record
+    { floor = c.self.inside.floor; kept = c.self.inside.kept } in
+    let limits : IsHistory live.kept.history = subst IsHistory c.history.ensures.value
+    c.n-n.ensures.limits in
+    let there : HasChoice (tape_at live.kept.history c.args.p) (AtCheck c.args.check) = subst
+    (λ (l : LiveCollectionView). HasChoice (tape_at l.kept.history c.args.p)
+    (AtCheck c.args.check)) (sym c.self.view_is) c.requires in
     check_told live.kept.history limits c.args.p c.args.check there

@@ -12,4 +12,5 @@ pub returns-in-Ok-clause-range : goal.returns-in-Ok-clause-range
 returns-in-Ok-clause-range c =
     let seen : KeptReport → Report = λ kept. report_with_bytes kept c.report_in.new.bytes.items in
     spelled_within c.args.n c.args.row.now (seen c.in-Ok.kept)
-    (subst (λ (read : Result KeptReport ReadError). Gives seen read (report_in c.args.n c.args.row.now)) c.in-Ok.is c.report_in.ensures)
+    (subst (λ (read : Result KeptReport ReadError). Gives seen read
+    (report_in c.args.n c.args.row.now)) c.in-Ok.is c.report_in.ensures)

@@ -1,11 +1,14 @@
 -- The inbox of one process more is kept.
-use Rattle.std.proofs.Common.{◌≡◌, ◌≢◌, ℕ, ◌+◌, [], List, length, get_or, sym, ap, ◌∙◌, subst, arith, rules}
+use Rattle.std.proofs.Common.{◌≡◌, ◌≢◌, ℕ, ◌+◌, [], List, length, get_or, sym, ap, ◌∙◌, subst}
+use Rattle.std.proofs.Common.{arith, rules}
 use Rattle.std.proofs.lemmas.Bool.{eq-eqb, eqb-true, false≢true}
 use Rattle.std.proofs.lemmas.List.{get_or_default}
 use Rattle.line_names.specs.declared.messages.MsgName.{MsgName}
 use Rattle.line_colours.specs.Inboxes.{messages_from, AreFrom, InboxView}
-use Rattle.line_colours.proofs.GatherLemmas.{kept_table, none_of, AreKept, AreKept-more, AreKept-skip}
-use Rattle.line_colours.proofs.channels.Channels.keep.Goals.{then-not-is_empty+in_ok-new+in_ok-push, else-not-is_empty}
+use Rattle.line_colours.proofs.GatherLemmas.{kept_table, none_of, AreKept, AreKept-more}
+use Rattle.line_colours.proofs.GatherLemmas.{AreKept-skip}
+use Rattle.line_colours.proofs.channels.Channels.keep.Goals.{then-not-is_empty+in_ok-new+in_ok-push}
+use Rattle.line_colours.proofs.channels.Channels.keep.Goals.{else-not-is_empty}
 use Rattle.line_colours.proofs.channels.Channels.keep.Goals as goal
 
 pub loop-q-preserved : goal.loop-q-preserved

@@ -8,4 +8,5 @@ use Rattle.line_colours.proofs.colours.Colours.new.Goals as goal
 pub returns-clause-turned : goal.returns-clause-turned
 returns-clause-turned c =
     let all : c.loop-p._p ≡ c.args.n = omega arith in
-    subst (AreTurned (replicate c.args.n fresh)) (sym (c.loop-p.invariant ∙ ap (λ n. replicate n no_turns) all)) (AreTurned-fresh c.args.n)
+    subst (AreTurned (replicate c.args.n fresh))
+    (sym (c.loop-p.invariant ∙ ap (λ n. replicate n no_turns) all)) (AreTurned-fresh c.args.n)

@@ -26,7 +26,8 @@ each-preserved c =
     let i : ℕ = c.each.i in
     let message : MsgName = c.index.result.now in
     bits_more c.each.senders messages i c.get.result c.each.invariant
-    (λ d. ap (λ (m : MsgName). m.from) (get_or_default messages i d message (omega (arith, c.each-test.true, c.len-i-end.ensures)) ∙ sym c.index.ensures)
+    (λ d. ap (λ (m : MsgName). m.from) (get_or_default messages i d message
+    (omega (arith, c.each-test.true, c.len-i-end.ensures)) ∙ sym c.index.ensures)
     ∙ sym c.get.ensures.value)
 
 pub returns-clause-same : goal.returns-clause-same

@@ -7,5 +7,6 @@ use Rattle.line_colours.proofs.received.ReceivedSends.cut.Given as goal
 abbrev pub invariant-loop-q : goal.invariant-loop-q
 invariant-loop-q l =
     (length l.self-inside.processes.items ≡ length l.fn.self)
-    × ((k : ℕ) → k < l.q → flags_of l.self-inside.processes.items k ≡ take (sends (events_before l.history.processes l.line k)) (flags_of l.fn.self k))
+    × ((k : ℕ) → k < l.q → flags_of l.self-inside.processes.items k
+    ≡ take (sends (events_before l.history.processes l.line k)) (flags_of l.fn.self k))
     × ((k : ℕ) → l.q ≤ k → flags_of l.self-inside.processes.items k ≡ flags_of l.fn.self k)

@@ -9,4 +9,5 @@ pub returns-clause-flagged : goal.returns-clause-flagged
 returns-clause-flagged c =
     let none : List Bool = [] in
     let all : c.loop-p._p ≡ c.args.n = omega arith in
-    subst (AreFlagged (replicate c.args.n fresh)) (sym (c.loop-p.invariant ∙ ap (λ n. replicate n none) all)) (AreFlagged-fresh c.args.n)
+    subst (AreFlagged (replicate c.args.n fresh))
+    (sym (c.loop-p.invariant ∙ ap (λ n. replicate n none) all)) (AreFlagged-fresh c.args.n)

@@ -5,4 +5,5 @@ use Rattle.line_colours.proofs.rules.Colour.turn.Goals as goal
 
 pub returns-clause-greatest : goal.returns-clause-greatest
 returns-clause-greatest c = λ rounds e.
-    let below : colour_of rounds < c.args.round = omega (arith, c.self.view_is) in colour_of-push rounds c.args.round below
+    let below : colour_of rounds < c.args.round = omega
+    (arith, c.self.view_is) in colour_of-push rounds c.args.round below

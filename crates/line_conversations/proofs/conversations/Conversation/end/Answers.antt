@@ -7,6 +7,9 @@ use Rattle.line_conversations.proofs.conversations.Conversation.end.Goals.{in-Ok
 pub returns-clause-err : goal.returns-clause-err
 returns-clause-err g c =
     elim c.match-heard.branch [
-      | in-Ok w ↦ rw (w.result-is, w.sink-is, sym c.self.view_is) (on_err_weaker w.put_held.result (λ put. front_put _ _ _ _ _ _ _ w.in-Ok.ensures.ok c.self.invariant put) w.put_held.ensures.err)
-      | in-Err w ↦ rw (w.result-is, w.sink-is, sym c.self.view_is) (rw c.self.invariant at w.in-Err.ensures.err)
+      | in-Ok w ↦ rw (w.result-is, w.sink-is, sym c.self.view_is)
+          (on_err_weaker w.put_held.result (λ put. front_put _ _ _ _ _ _ _ w.in-Ok.ensures.ok
+          c.self.invariant put) w.put_held.ensures.err)
+      | in-Err w ↦ rw (w.result-is, w.sink-is, sym c.self.view_is)
+          (rw c.self.invariant at w.in-Err.ensures.err)
     ]

@@ -5,4 +5,5 @@ use Rattle.line_conversations.proofs.conversations.Conversation.hear.Goals as go
 
 pub returns-in-Ok-clause-err : goal.returns-in-Ok-clause-err
 returns-in-Ok-clause-err g c =
-    rw (sym c.self.view_is) (on_err_weaker c.put_held.result (λ put. front_put _ _ _ _ _ _ _ c.in-Ok.ensures.ok c.self.invariant put) c.put_held.ensures.err)
+    rw (sym c.self.view_is) (on_err_weaker c.put_held.result (λ put. front_put _ _ _ _ _ _ _
+    c.in-Ok.ensures.ok c.self.invariant put) c.put_held.ensures.err)

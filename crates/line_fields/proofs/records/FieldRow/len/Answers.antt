@@ -8,6 +8,8 @@ pub returns-else-is_empty : goal.returns-else-is_empty
 returns-else-is_empty c =
     let counted : c.len-else-is_empty.result ≡ length c.self.inside.ends.items = search rules in
     let long : vec_len c.self.inside.ends ≡ length c.self.inside.ends.items = search rules in
-    let some : (length c.self.inside.ends.items == 0) ≡ false = rw long at (sym c.is_empty.ensures ∙ c.if-is_empty.false) in
-    counted ∙ sym (held_of_line c.self.inside.line.now c.self.inside.ends.items (fields_of c.self.inside.record) some)
+    let some : (length c.self.inside.ends.items == 0)
+    ≡ false = rw long at (sym c.is_empty.ensures ∙ c.if-is_empty.false) in
+    counted ∙ sym (held_of_line c.self.inside.line.now c.self.inside.ends.items
+    (fields_of c.self.inside.record) some)
     ∙ ap (λ (fields : Record). length fields) c.self.view_is

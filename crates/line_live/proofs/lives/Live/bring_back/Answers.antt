@@ -15,13 +15,19 @@ use Rattle.line_live.proofs.lives.Live.bring_back.Goals as goal
 pub bring_plan-requires-clause-few : goal.bring_plan-requires-clause-few
 bring_plan-requires-clause-few c =
     let kept : Machine = c.self.inside.world in
-    let limits : IsHistory kept.history = subst IsHistory c.history-history.ensures.value c.n-n.ensures.limits in
-    let fit : IsFitFifo kept.history = subst (λ (mode : Mode). IsFitIn mode kept.history) (c.self.invariant.fifo c.if-self.true) c.history-history.ensures.fit in
-    let is : IsPlan kept c.args.failed.now c.args.plan.now = subst (λ (live : LiveMachine). IsPlan live.kept c.args.failed.now c.args.plan.now) (sym c.self.view_is) c.requires in
+    let limits : IsHistory kept.history = subst IsHistory c.history-history.ensures.value
+    c.n-n.ensures.limits in
+    let fit : IsFitFifo kept.history = subst (λ (mode : Mode). IsFitIn mode kept.history)
+    (c.self.invariant.fifo c.if-self.true) c.history-history.ensures.fit in
+    let is : IsPlan kept c.args.failed.now c.args.plan.now = subst (λ (live : LiveMachine). IsPlan
+    live.kept c.args.failed.now c.args.plan.now) (sym c.self.view_is) c.requires in
     plan_few kept c.args.failed.now c.args.plan.now limits fit is
 
 pub returns-then-self : goal.returns-then-self
-returns-then-self c = c.bring_plan.ensures ∙ ap (λ (live : LiveMachine). whole_plan live.floor c.args.plan.now) c.self.view_is
+returns-then-self c = c.bring_plan.ensures ∙ ap
+    (λ (live : LiveMachine). whole_plan live.floor c.args.plan.now) c.self.view_is
 
 pub returns-else-self : goal.returns-else-self
-returns-else-self c = sym (plan_none c.self.inside.floor (c.self.invariant.none c.if-self.false) c.args.plan.now) ∙ ap (λ (live : LiveMachine). whole_plan live.floor c.args.plan.now) c.self.view_is
+returns-else-self c = sym
+    (plan_none c.self.inside.floor (c.self.invariant.none c.if-self.false) c.args.plan.now) ∙ ap
+    (λ (live : LiveMachine). whole_plan live.floor c.args.plan.now) c.self.view_is

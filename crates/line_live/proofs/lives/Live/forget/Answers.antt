@@ -10,14 +10,20 @@ use Rattle.line_live.proofs.ResumedLemmas.{found_sends}
 use Rattle.line_live.proofs.lives.Live.forget.Goals as goal
 
 pub let_go-requires-clause-stays : goal.let_go-requires-clause-stays
-let_go-requires-clause-stays c = subst (λ (m : LiveMachine). FloorSurvives m.kept.history m.kept.marks c.in_ok-later.later) c.self.view_is c.in_ok-later.ensures.floor.at.stays
+let_go-requires-clause-stays c = subst (λ (m : LiveMachine). FloorSurvives m.kept.history
+    m.kept.marks c.in_ok-later.later) c.self.view_is c.in_ok-later.ensures.floor.at.stays
 
 pub let_go-requires-clause-count : goal.let_go-requires-clause-count
 let_go-requires-clause-count c =
-    let found : IsFloorOfRound c.self.inside.world c.args.round c.in_ok-later.later = c.in_ok-later.ensures.floor in
-    found_sends c.in_ok-later.later c.self.inside.world.history (check_line found.round.checks) c.self.inside.world.last_round found.at.value ∙ ap (λ (m : LiveMachine). length m.kept.history) c.self.view_is
+    let found : IsFloorOfRound c.self.inside.world c.args.round c.in_ok-later.later =
+    c.in_ok-later.ensures.floor in
+    found_sends c.in_ok-later.later c.self.inside.world.history
+    (check_line found.round.checks) c.self.inside.world.last_round found.at.value ∙ ap
+    (λ (m : LiveMachine). length m.kept.history) c.self.view_is
 
 pub let_go-requires-clause-further : goal.let_go-requires-clause-further
 let_go-requires-clause-further c =
-    subst (λ (m : LiveMachine). (p : ℕ) → 1 ≤ floor_check m.floor p → 1 ≤ floor_check c.in_ok-later.later p) c.self.view_is
-    (round_further c.self.inside.floor c.self.inside.forgot c.self.inside.world c.args.round c.in_ok-later.later c.self.invariant c.in_ok-later.ensures.floor)
+    subst (λ (m : LiveMachine). (p : ℕ) → 1 ≤ floor_check m.floor p
+    → 1 ≤ floor_check c.in_ok-later.later p) c.self.view_is
+    (round_further c.self.inside.floor c.self.inside.forgot c.self.inside.world c.args.round
+    c.in_ok-later.later c.self.invariant c.in_ok-later.ensures.floor)

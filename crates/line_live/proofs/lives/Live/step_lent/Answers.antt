@@ -21,8 +21,12 @@ returns-clause-done c =
     let old : Machine = c.self.inside.world in
     let new : Machine = c.step_lent.new.self in
     let step : Step = (step_of_ref c.args.step.now) in
-    IfOk-weaker c.step_lent.result (λ (reply : Reply). Takes old step (Done reply) new) (λ (reply : Reply). TakesLive c.args.self.now step (Done reply) (living floor new))
-    (λ reply takes. subst (λ (m : LiveMachine). TakesLive m step (Done reply) (living floor new)) c.self.view_is (takes_none floor (c.self.invariant.none c.if-self.false) old new step (Done reply) takes)) c.step_lent.ensures.done
+    IfOk-weaker c.step_lent.result (λ (reply : Reply). Takes old step (Done reply) new)
+    (λ (reply : Reply). TakesLive c.args.self.now step (Done reply) (living floor new))
+    (λ reply takes. subst
+    (λ (m : LiveMachine). TakesLive m step (Done reply) (living floor new)) c.self.view_is
+    (takes_none floor (c.self.invariant.none c.if-self.false) old new step (Done reply) takes))
+    c.step_lent.ensures.done
 
 pub returns-clause-refused : goal.returns-clause-refused
 returns-clause-refused c =
@@ -30,13 +34,23 @@ returns-clause-refused c =
     let old : Machine = c.self.inside.world in
     let new : Machine = c.step_lent.new.self in
     let step : Step = (step_of_ref c.args.step.now) in
-    IfErr-weaker c.step_lent.result (λ (e : StepError). e ≢ OutOfMemory → Takes old step (Refused e) new) (λ (e : StepError). e ≢ OutOfMemory → TakesLive c.args.self.now step (Refused e) (living floor new))
-    (λ e refused other. subst (λ (m : LiveMachine). TakesLive m step (Refused e) (living floor new)) c.self.view_is (takes_none floor (c.self.invariant.none c.if-self.false) old new step (Refused e) (refused other))) c.step_lent.ensures.refused
+    IfErr-weaker c.step_lent.result
+    (λ (e : StepError). e ≢ OutOfMemory → Takes old step (Refused e) new) (λ (e : StepError). e
+    ≢ OutOfMemory → TakesLive c.args.self.now step (Refused e) (living floor new))
+    (λ e refused other. subst
+    (λ (m : LiveMachine). TakesLive m step (Refused e) (living floor new)) c.self.view_is
+    (takes_none floor (c.self.invariant.none c.if-self.false) old new step (Refused e)
+    (refused other))) c.step_lent.ensures.refused
 
 pub invariant_of-self : goal.invariant_of-self
 invariant_of-self c =
-    tallied_live c.self.inside.floor c.self.inside.forgot c.self.inside.world c.self.invariant (step_of_ref c.args.step.now) c.step_kept.new.world c.step_kept.result c.step_kept.ensures.done c.step_kept.ensures.refused c.step_kept.ensures.memory
+    tallied_live c.self.inside.floor c.self.inside.forgot c.self.inside.world c.self.invariant
+    (step_of_ref c.args.step.now) c.step_kept.new.world c.step_kept.result
+    c.step_kept.ensures.done c.step_kept.ensures.refused c.step_kept.ensures.memory
 
 pub invariant_of-self-2 : goal.invariant_of-self-2
 invariant_of-self-2 c =
-    tallied_first c.self.inside.floor c.self.inside.forgot c.self.inside.world c.self.invariant (c.self.invariant.none c.if-self.false) (step_of_ref c.args.step.now) c.step_lent.new.self c.step_lent.result c.step_lent.ensures.done c.step_lent.ensures.refused c.step_lent.ensures.memory
+    tallied_first c.self.inside.floor c.self.inside.forgot c.self.inside.world c.self.invariant
+    (c.self.invariant.none c.if-self.false)
+    (step_of_ref c.args.step.now) c.step_lent.new.self c.step_lent.result
+    c.step_lent.ensures.done c.step_lent.ensures.refused c.step_lent.ensures.memory

@@ -4,4 +4,5 @@ use Rattle.line_marker.proofs.logs.Logs.open.Given as goal
 
 abbrev pub invariant-loop-log : goal.invariant-loop-log
 invariant-loop-log l =
-    (l.spans.items ≡ map open_span (names_of (take l.log-index l.self))) × (length l.self ≤ vec_capacity l.spans)
+    (l.spans.items ≡ map open_span (names_of (take l.log-index l.self)))
+    × (length l.self ≤ vec_capacity l.spans)

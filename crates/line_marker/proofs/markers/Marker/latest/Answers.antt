@@ -14,8 +14,13 @@ returns-in-Some c =
     let slice : c.deref.result.now ≡ rounds = c.deref.ensures.value in
     let last : ℕ = length c.deref.result.now - 1 in
     let count : length c.deref.result.now ≡ suc last = omega (arith, c.in-Some.ensures.item.3.0) in
-    let shown : c.round.inside.number ≡ c.in-Some.round.now.number = ap (λ (r : RoundView). r.number) c.round.view_is in
-    let read : c.in-Some.round.now.number ≡ (get_or c.deref.result.now last c.in-Some.round.now).number = ap (λ (r : RoundView). r.number) c.in-Some.ensures.item.1 in
-    let found : last_number c.self.inside.floor c.deref.result.now ≡ (get_or c.deref.result.now last c.in-Some.round.now).number = last_number-at c.self.inside.floor c.deref.result.now last c.in-Some.round.now count in
-    shown ∙ read ∙ sym found ∙ ap (λ (xs : List RoundView). last_number c.self.inside.floor xs) slice ∙ sym (latest-last c.self.inside.floor logs rounds up)
+    let shown : c.round.inside.number
+    ≡ c.in-Some.round.now.number = ap (λ (r : RoundView). r.number) c.round.view_is in
+    let read : c.in-Some.round.now.number ≡ (get_or c.deref.result.now last
+    c.in-Some.round.now).number = ap (λ (r : RoundView). r.number) c.in-Some.ensures.item.1 in
+    let found : last_number c.self.inside.floor c.deref.result.now
+    ≡ (get_or c.deref.result.now last c.in-Some.round.now).number =
+    last_number-at c.self.inside.floor c.deref.result.now last c.in-Some.round.now count in
+    shown ∙ read ∙ sym found ∙ ap (λ (xs : List RoundView). last_number c.self.inside.floor xs)
+    slice ∙ sym (latest-last c.self.inside.floor logs rounds up)
     ∙ ap (λ (m : MarkerView). latest m.floor m.rounds) c.self.view_is

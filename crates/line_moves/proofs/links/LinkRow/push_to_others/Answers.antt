@@ -19,12 +19,18 @@ loop-q-preserved c =
     elim c.if-q-get.branch [
       | then-q-get w ↦
           rw w.self-inside-is
-          (AreSent-put own item q before row is within w.index_mut-queue.result.now w.push_reserved.new.self (λ e. w.if-q-get.true (e ∙ sym c.get.ensures.value)) w.index_mut-queue.ensures.value w.push_reserved.ensures.held)
+          (AreSent-put own item q before row is within w.index_mut-queue.result.now
+          w.push_reserved.new.self (λ e. w.if-q-get.true (e ∙ sym c.get.ensures.value))
+          w.index_mut-queue.ensures.value w.push_reserved.ensures.held)
       | else-q-get w ↦
-          rw w.self-inside-is (AreSent-own own item q before row is within (w.if-q-get.false ∙ c.get.ensures.value))
+          rw w.self-inside-is
+          (AreSent-own own item q before row is within (w.if-q-get.false ∙ c.get.ensures.value))
     ]
 
 pub returns : goal.returns
 returns c =
-    AreSent-end c.args.own c.args.item c.loop-q.q c.self.inside.queues.items c.loop-q.self-inside.queues.items c.loop-q.invariant (omega (arith, c.loop-q-test.false, c.loop-q.invariant.count))
-    ∙ ap (λ (xs : List QueueView). with_on_others (items_held xs) c.args.own c.args.item) c.self.view_is
+    AreSent-end c.args.own c.args.item c.loop-q.q c.self.inside.queues.items
+    c.loop-q.self-inside.queues.items c.loop-q.invariant
+    (omega (arith, c.loop-q-test.false, c.loop-q.invariant.count))
+    ∙ ap (λ (xs : List QueueView). with_on_others (items_held xs) c.args.own c.args.item)
+    c.self.view_is

@@ -15,7 +15,8 @@ loop-q-preserved c =
     let new : QueueView = c.reserve.new.self in
     let within : q < length row = omega (arith, c.loop-q-test.true, c.loop-q.invariant.2) in
     let room : 0 < new.room = omega (arith, c.in_ok-reserve.ensures.ok) in (
-      map-set_same held row q new c.index_mut-queue.result.now (c.in_ok-reserve.ensures.held ∙ ap held c.index_mut-queue.ensures.value) ∙ c.loop-q.invariant.0,
+      map-set_same held row q new c.index_mut-queue.result.now (c.in_ok-reserve.ensures.held ∙ ap
+          held c.index_mut-queue.ensures.value) ∙ c.loop-q.invariant.0,
       rooms-more row q new within room c.loop-q.invariant.1,
       length-set row q new ∙ c.loop-q.invariant.2,
       c.loop-q.invariant.3,
@@ -25,7 +26,8 @@ pub returns-in_err-reserve-clause-same : goal.returns-in_err-reserve-clause-same
 returns-in_err-reserve-clause-same c =
     let row : List QueueView = c.loop-q.self-inside.queues.items in
     let held : QueueView → List Item = λ queue. queue.held in
-    map-set_same held row c.loop-q.q c.reserve.new.self c.index_mut-queue.result.now (c.in_err-reserve.ensures.held ∙ ap held c.index_mut-queue.ensures.value)
+    map-set_same held row c.loop-q.q c.reserve.new.self c.index_mut-queue.result.now
+    (c.in_err-reserve.ensures.held ∙ ap held c.index_mut-queue.ensures.value)
     ∙ c.loop-q.invariant.0
     ∙ ap (λ (xs : List QueueView). items_held xs) c.self.view_is
 

@@ -18,7 +18,8 @@ settle_at-requires-2-clause-rounds c =
 pub settle_at-requires-3-clause-rounds : goal.settle_at-requires-3-clause-rounds
 settle_at-requires-3-clause-rounds c =
     subst (All (IsSnapshotOf c.args.history.now.processes))
-    (sym (c.settle_at-2.ensures ∙ c.settle_at.ensures ∙ ap (λ (l : ListingView). l.items) c.self.view_is))
+    (sym (c.settle_at-2.ensures ∙ c.settle_at.ensures ∙ ap
+    (λ (l : ListingView). l.items) c.self.view_is))
     c.requires
 
 pub settle_at-requires-4-clause-rounds : goal.settle_at-requires-4-clause-rounds

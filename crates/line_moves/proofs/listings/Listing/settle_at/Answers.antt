@@ -7,4 +7,5 @@ use Rattle.line_moves.proofs.listings.Listing.settle_at.Goals as goal
 pub lean-requires : goal.lean-requires
 lean-requires c =
     subst (All (IsSnapshotOf c.args.history.now.processes))
-    (sym (c.deref_mut.ensures.value ∙ ap (λ (l : ListingView). l.items) c.self.view_is)) c.requires.rounds
+    (sym (c.deref_mut.ensures.value ∙ ap (λ (l : ListingView). l.items) c.self.view_is))
+    c.requires.rounds

@@ -1,5 +1,6 @@
 -- Its channels are open, and nothing is on them.
-use Rattle.std.proofs.Common.{◌≡◌, ◌<◌, ℕ, ◌+◌, false, List, length, get_or, set, Some, sym, ap, ◌∙◌, subst, arith}
+use Rattle.std.proofs.Common.{◌≡◌, ◌<◌, ℕ, ◌+◌, false, List, length, get_or, set, Some, sym, ap}
+use Rattle.std.proofs.Common.{◌∙◌, subst, arith}
 use Rattle.line_marker.specs.Recording.{MarkerView, with_round}
 use Rattle.line_tape.specs.declared.events.Event.TheVariants.{Check}
 use Rattle.line_tape.specs.Event.{checks}
@@ -20,20 +21,32 @@ returns-clause-recording c = λ state.
     let r : ℕ = turning.number in
     let markers : List MarkerView = c.self.inside.markers.items in
     let number : r ≡ c.args.self.now.number = ap (λ (v : OpenView). v.number) c.self.view_is in
-    let is : IsRecording history (record { number = r; checks = turning.checks; markers = markers }) = subst (IsRecording history) (sym c.self.view_is) c.requires.recording in
+    let is : IsRecording history (record { number = r; checks = turning.checks; markers = markers })
+    = subst (IsRecording history) (sym c.self.view_is) c.requires.recording in
     let are : AreMarkers (length turning.checks) markers = c.self.invariant.0 in
     let old : MarkerView = c.index_mut.result.now in
     let new : MarkerView = c.begin.new.self in
-    let own : old ≡ marker_at markers p = own_marker history p turning markers c.requires.p are is old (c.index_mut.ensures.value ∙ ap (λ (i : ℕ). get_or markers i old) c.get.ensures.value) in
-    let none : has_check_of r (tape_at history p) ≡ false = ap (λ (v : ℕ). has_check_of v (tape_at history p)) number ∙ c.requires.first in
+    let own : old
+    ≡ marker_at markers p = own_marker history p turning markers c.requires.p are is old
+    (c.index_mut.ensures.value ∙ ap (λ (i : ℕ). get_or markers i old) c.get.ensures.value) in
+    let none : has_check_of r (tape_at history p)
+    ≡ false = ap (λ (v : ℕ). has_check_of v (tape_at history p)) number ∙ c.requires.first in
     let told : c.number-number.result ≡ r = c.number-number.ensures ∙ c.check.ensures.number in
     let follows : IsTurning (with_event history p (Check state (Some r))) c.check.new.self =
-    c.check.ensures.turning history state is.turning none (ap (λ (v : ℕ). v + 1) (c.checks.ensures.value ∙ ap checks c.tape.ensures.events)) in
-    let after : OpenView = record { number = c.check.new.self.number; checks = c.check.new.self.checks; markers = set markers c.get.result new } in
+    c.check.ensures.turning history state is.turning none
+    (ap (λ (v : ℕ). v + 1) (c.checks.ensures.value ∙ ap checks c.tape.ensures.events)) in
+    let after : OpenView = record {
+      number = c.check.new.self.number;
+      checks =
+          c.check.new.self.checks;
+      markers = set markers c.get.result new;
+    } in
     subst (λ (v : ℕ). IsRecording (with_event history p (Check state (Some v))) after) number
-    (IsRecording-begun history p turning markers c.requires.p are is state c.check.new.self c.check.ensures.number follows none c.get.result c.get.ensures.value new
+    (IsRecording-begun history p turning markers c.requires.p are is state c.check.new.self
+    c.check.ensures.number follows none c.get.result c.get.ensures.value new
     (c.begin.ensures.same.floor_is ∙ ap (λ (m : MarkerView). m.floor) own)
-    (c.begin.ensures.begun ∙ ap (λ (v : ℕ). with_round old.rounds old.n v) told ∙ ap (λ (m : MarkerView). with_round m.rounds m.n r) own))
+    (c.begin.ensures.begun ∙ ap (λ (v : ℕ). with_round old.rounds old.n v) told ∙ ap
+    (λ (m : MarkerView). with_round m.rounds m.n r) own))
 
 pub begin-requires : goal.begin-requires
 begin-requires c =
@@ -43,11 +56,17 @@ begin-requires c =
     let markers : List MarkerView = c.self.inside.markers.items in
     let r : ℕ = turning.number in
     let number : r ≡ c.args.self.now.number = ap (λ (v : OpenView). v.number) c.self.view_is in
-    let is : IsRecording history (record { number = r; checks = turning.checks; markers = markers }) = subst (IsRecording history) (sym c.self.view_is) c.requires.recording in
+    let is : IsRecording history (record { number = r; checks = turning.checks; markers = markers })
+    = subst (IsRecording history) (sym c.self.view_is) c.requires.recording in
     let old : MarkerView = c.index_mut.result.now in
-    let own : old ≡ marker_at markers p = own_marker history p turning markers c.requires.p c.self.invariant.0 is old (c.index_mut.ensures.value ∙ ap (λ (i : ℕ). get_or markers i old) c.get.ensures.value) in
-    let none : has_check_of r (tape_at history p) ≡ false = ap (λ (v : ℕ). has_check_of v (tape_at history p)) number ∙ c.requires.first in
-    ap (λ (m : MarkerView). m.rounds) own ∙ recorded_none (length history) p r (tape_at history p) (marker_at markers p) (is.markers p c.requires.p) none
+    let own : old
+    ≡ marker_at markers p = own_marker history p turning markers c.requires.p c.self.invariant.0
+    is old (c.index_mut.ensures.value ∙ ap
+    (λ (i : ℕ). get_or markers i old) c.get.ensures.value) in
+    let none : has_check_of r (tape_at history p)
+    ≡ false = ap (λ (v : ℕ). has_check_of v (tape_at history p)) number ∙ c.requires.first in
+    ap (λ (m : MarkerView). m.rounds) own ∙ recorded_none (length history) p r (tape_at history p)
+    (marker_at markers p) (is.markers p c.requires.p) none
 
 pub invariant_of-self : goal.invariant_of-self
 invariant_of-self c =
@@ -55,6 +74,17 @@ invariant_of-self c =
     let markers : List MarkerView = c.self.inside.markers.items in
     let old : MarkerView = c.index_mut.result.now in
     let new : MarkerView = c.begin.new.self in
-    let within : c.get.result < length markers = omega (arith, c.get.ensures.value, c.requires.p, c.self.invariant.0.count, c.requires.recording.turning.count, ap (λ (v : OpenView). length v.checks) c.self.view_is) in
-    kept-begun (length turning.checks) markers c.self.invariant.0 c.get.result old new within c.index_mut.ensures.value c.begin.ensures.same c.self.inside.to_come turning.number c.self.invariant.1
-    (length c.check.new.self.checks) c.check.new.self.number c.check.ensures.count c.check.ensures.number old.n c.number-number.result c.begin.ensures.begun
+    let within : c.get.result < length markers = omega (
+      arith,
+      c.get.ensures.value,
+      c.requires.p,
+      c.self.invariant.0.count,
+      c.requires.recording.turning.count,
+      ap (λ (v : OpenView). length v.checks) c.self.view_is,
+    )
+    in
+    kept-begun (length turning.checks) markers c.self.invariant.0 c.get.result old new within
+    c.index_mut.ensures.value c.begin.ensures.same c.self.inside.to_come turning.number
+    c.self.invariant.1
+    (length c.check.new.self.checks) c.check.new.self.number c.check.ensures.count
+    c.check.ensures.number old.n c.number-number.result c.begin.ensures.begun

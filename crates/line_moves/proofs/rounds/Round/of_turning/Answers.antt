@@ -6,8 +6,11 @@ use Rattle.line_moves.proofs.rounds.Round.of_turning.Goals as goal
 
 pub invariant_of-result : goal.invariant_of-result
 invariant_of-result c =
-    subst (λ (n : ℕ). IsTable n c.args.channels) (sym (ap (λ (v : List ℕ). length v) c.into_checks.ensures ∙ c.requires.turning.count)) c.requires.channels.shape
+    subst (λ (n : ℕ). IsTable n c.args.channels) (sym (ap (λ (v : List ℕ). length v)
+    c.into_checks.ensures ∙ c.requires.turning.count)) c.requires.channels.shape
 
 pub returns : goal.returns
 returns c =
-    counted_is c.args._history.now.processes c.args.turning c.requires.turning c.requires.completed c.into_checks.result.items c.args.channels c.number-number.result c.into_checks.ensures c.number-number.ensures c.requires.channels
+    counted_is c.args._history.now.processes c.args.turning c.requires.turning c.requires.completed
+    c.into_checks.result.items c.args.channels c.number-number.result c.into_checks.ensures
+    c.number-number.ensures c.requires.channels

@@ -16,8 +16,10 @@ each-preserved c = λ v within.
       | inl below ↦ c.each.invariant v below
       | inr past ↦ let same : v ≡ q = omega (arith, within, past) in
           ap (λ (p : ℕ). is_kept (choice_at c.args.line.now p) (check_in c.args.self.now p)) same
-          ∙ ap (λ (p : ℕ). is_kept (choice_at c.args.line.now p) (check_in c.args.self.now q)) (sym at)
-          ∙ ap (λ (k : ℕ). is_kept (choice_at c.args.line.now c.unwrap-p.result) k) (sym c.check_or_none.ensures)
+          ∙ ap (λ (p : ℕ). is_kept (choice_at c.args.line.now p) (check_in c.args.self.now q))
+          (sym at)
+          ∙ ap (λ (k : ℕ). is_kept (choice_at c.args.line.now c.unwrap-p.result) k)
+          (sym c.check_or_none.ensures)
           ∙ ap (λ choice. is_kept choice c.check_or_none.result) (sym c.at.ensures)
           ∙ sym c.is_kept.ensures ∙ c.if-not-is_kept.false
     ]
@@ -31,11 +33,15 @@ returns-then-not-is_kept c =
     both_ways c.is_kept.result c.if-not-is_kept.true (
     c.is_kept.ensures
     ∙ ap (λ choice. is_kept choice c.check_or_none.result) c.at.ensures
-    ∙ ap (λ (k : ℕ). is_kept (choice_at c.args.line.now c.unwrap-p.result) k) c.check_or_none.ensures
+    ∙ ap (λ (k : ℕ). is_kept (choice_at c.args.line.now c.unwrap-p.result) k)
+    c.check_or_none.ensures
     ∙ ap (λ (p : ℕ). is_kept (choice_at c.args.line.now p) (check_in c.args.self.now q)) at
-    ∙ in_range (λ (p : ℕ). is_kept (choice_at c.args.line.now p) (check_in c.args.self.now p)) 0 n q t (omega arith) (omega (arith, c.each-test.true, c.len-n.ensures.value)))))
+    ∙ in_range (λ (p : ℕ). is_kept (choice_at c.args.line.now p) (check_in c.args.self.now p)) 0 n q
+    t (omega arith) (omega (arith, c.each-test.true, c.len-n.ensures.value)))))
 
 pub returns : goal.returns
 returns c =
-    sym (all_range (λ (p : ℕ). is_kept (choice_at c.args.line.now p) (check_in c.args.self.now p)) 0 (length c.args.line.now)
-    (λ v low high. c.each.invariant v (omega (arith, high, c.each-test.false, c.len-n.ensures.value))))
+    sym (all_range (λ (p : ℕ). is_kept (choice_at c.args.line.now p) (check_in c.args.self.now p)) 0
+    (length c.args.line.now)
+    (λ v low high. c.each.invariant v
+    (omega (arith, high, c.each-test.false, c.len-n.ensures.value))))

@@ -26,4 +26,5 @@ pub returns-clause-value : goal.returns-clause-value
 returns-clause-value c = members_of_none zeros each_zero
 
 pub returns-clause-none : goal.returns-clause-none
-returns-clause-none c q = ap (λ set. is_member set q) (members_of_none zeros each_zero) ∙ is_member-replicate MOST_PROCESSES q
+returns-clause-none c q = ap (λ set. is_member set q)
+    (members_of_none zeros each_zero) ∙ is_member-replicate MOST_PROCESSES q

@@ -19,10 +19,15 @@ invariant_of-self c =
     let L = in_ends I.lines.items in
     let H = taken_history O L in
     let G = c.let_go in (
-      collects O G.new.forgotten G.new.catalogue.marks L (known_rows I.lines.items) I.capacity c.self.invariant.0.line_count,
-      either_way G.result _ _ _ (IsKeptOf G.new.forgotten H G.new.catalogue.processes G.new.catalogue.marks) G.ensures.done G.ensures.same G.ensures.still
+      collects O G.new.forgotten G.new.catalogue.marks L
+          (known_rows I.lines.items) I.capacity c.self.invariant.0.line_count,
+      either_way G.result _ _ _ (IsKeptOf G.new.forgotten H G.new.catalogue.processes
+          G.new.catalogue.marks) G.ensures.done G.ensures.same G.ensures.still
           (λ done. (done H c.self.invariant.1).keeps)
-          (λ same still. subst (λ (f : Option Forgotten). IsKeptOf f H G.new.catalogue.processes G.new.catalogue.marks) (sym still) (subst (λ (k : CatalogueView). IsKeptOf I.forgotten H k.processes k.marks) (sym same) c.self.invariant.1)),
+          (λ same still. subst
+          (λ (f : Option Forgotten). IsKeptOf f H G.new.catalogue.processes
+          G.new.catalogue.marks) (sym still) (subst (λ (k : CatalogueView). IsKeptOf I.forgotten
+          H k.processes k.marks) (sym same) c.self.invariant.1)),
     )
 
 pub returns-clause-done : goal.returns-clause-done
@@ -32,8 +37,11 @@ returns-clause-done c =
     let L = in_ends I.lines.items in
     let H = taken_history O L in
     let G = c.let_go in
-    ok_then G.result _ _ (λ done. subst (λ (v : CollectorView). HasForgotten v (collector_at O G.new.forgotten G.new.catalogue.marks L (known_rows I.lines.items) I.capacity)) c.self.view_is
-    (forgotten_of O I.forgotten G.new.forgotten I.catalogue G.new.catalogue L (known_rows I.lines.items) I.capacity c.self.invariant.1 (done H c.self.invariant.1))) G.ensures.done
+    ok_then G.result _ _
+    (λ done. subst (λ (v : CollectorView). HasForgotten v (collector_at O G.new.forgotten
+    G.new.catalogue.marks L (known_rows I.lines.items) I.capacity)) c.self.view_is
+    (forgotten_of O I.forgotten G.new.forgotten I.catalogue G.new.catalogue L (known_rows
+    I.lines.items) I.capacity c.self.invariant.1 (done H c.self.invariant.1))) G.ensures.done
 
 pub returns-clause-same : goal.returns-clause-same
 returns-clause-same c =
@@ -42,8 +50,10 @@ returns-clause-same c =
     let L = in_ends I.lines.items in
     let G = c.let_go in
     both_kept G.result _ _ _ G.ensures.same G.ensures.still (λ same still.
-    ap (λ (k : CatalogueView). collector_at O G.new.forgotten k.marks L (known_rows I.lines.items) I.capacity) same
-    ∙ ap (λ (f : Option Forgotten). collector_at O f I.catalogue.marks L (known_rows I.lines.items) I.capacity) still
+    ap (λ (k : CatalogueView). collector_at O G.new.forgotten k.marks L
+    (known_rows I.lines.items) I.capacity) same
+    ∙ ap (λ (f : Option Forgotten). collector_at O f I.catalogue.marks L
+    (known_rows I.lines.items) I.capacity) still
     ∙ c.self.view_is)
 
 pub returns-clause-spent : goal.returns-clause-spent
@@ -56,7 +66,8 @@ returns-clause-spent c =
       told.0,
       subst IsShortOfNumbers c.self.view_is (record {
         later = told.1;
-        at = live_of_kept I.forgotten H I.catalogue.processes I.catalogue.marks told.1 c.self.invariant.1 told.2;
+        at = live_of_kept I.forgotten H I.catalogue.processes I.catalogue.marks told.1
+            c.self.invariant.1 told.2;
         spent = told.3;
       }),
     )) G.ensures.spent

@@ -9,4 +9,6 @@ pub returns-clause-value : goal.returns-clause-value
 returns-clause-value c =
     let I = c.self.inside in
     let H = taken_history I.opening.value.processes (in_ends I.lines.items) in
-    c.history.ensures.processes ∙ kept_is I.forgotten H I.catalogue.processes I.catalogue.marks c.self.invariant.1 ∙ ap (λ (v : CollectorView). history_kept v.floor v.processes) c.self.view_is
+    c.history.ensures.processes ∙ kept_is I.forgotten H I.catalogue.processes I.catalogue.marks
+    c.self.invariant.1 ∙ ap
+    (λ (v : CollectorView). history_kept v.floor v.processes) c.self.view_is

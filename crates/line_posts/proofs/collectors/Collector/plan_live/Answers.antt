@@ -15,21 +15,28 @@ returns-clause-latest c =
     let V = c.args.self.now in
     let F = c.everyone-failed.result in
     let H = taken_history I.opening.value.processes (in_ends I.lines.items) in
-    let size = c.n.ensures.value ∙ kept_long I.forgotten H I.catalogue.processes I.catalogue.marks c.self.invariant.1 ∙ ap (λ (v : CollectorView). length v.processes) c.self.view_is in
-    let all : HaveAllFailed (length V.processes) F = subst (λ n. HaveAllFailed n F) size c.everyone-failed.ensures in
-    if_ok_then c.plan_kept.result _ _ (λ plan told. let is : IsPlanned V.processes V.marks F plan = subst (λ (v : CollectorView). IsPlanned v.processes v.marks F plan) c.self.view_is (told H c.self.invariant.1) in (F, all, is.latest, is.chain)) c.plan_kept.ensures
+    let size = c.n.ensures.value ∙ kept_long I.forgotten H I.catalogue.processes I.catalogue.marks
+    c.self.invariant.1 ∙ ap (λ (v : CollectorView). length v.processes) c.self.view_is in
+    let all : HaveAllFailed (length V.processes) F = subst
+    (λ n. HaveAllFailed n F) size c.everyone-failed.ensures in
+    if_ok_then c.plan_kept.result _ _
+    (λ plan told. let is : IsPlanned V.processes V.marks F plan = subst
+    (λ (v : CollectorView). IsPlanned v.processes v.marks F plan) c.self.view_is
+    (told H c.self.invariant.1) in (F, all, is.latest, is.chain)) c.plan_kept.ensures
 
 pub returns-clause-some_sweep : goal.returns-clause-some_sweep
 returns-clause-some_sweep c =
     let I = c.self.inside in
     let H = taken_history I.opening.value.processes (in_ends I.lines.items) in
-    if_ok_then c.plan_kept.result _ _ (λ plan told. (told H c.self.invariant.1).some_sweep) c.plan_kept.ensures
+    if_ok_then c.plan_kept.result _ _
+    (λ plan told. (told H c.self.invariant.1).some_sweep) c.plan_kept.ensures
 
 pub returns-clause-few_sweeps : goal.returns-clause-few_sweeps
 returns-clause-few_sweeps c =
     let I = c.self.inside in
     let H = taken_history I.opening.value.processes (in_ends I.lines.items) in
-    if_ok_then c.plan_kept.result _ _ (λ plan told. (told H c.self.invariant.1).few_sweeps) c.plan_kept.ensures
+    if_ok_then c.plan_kept.result _ _
+    (λ plan told. (told H c.self.invariant.1).few_sweeps) c.plan_kept.ensures
 
 pub returns-clause-replays : goal.returns-clause-replays
 returns-clause-replays c =
@@ -37,7 +44,10 @@ returns-clause-replays c =
     let V = c.args.self.now in
     let F = c.everyone-failed.result in
     let H = taken_history I.opening.value.processes (in_ends I.lines.items) in
-    if_ok_then c.plan_kept.result _ _ (λ plan told. let is : IsPlanned V.processes V.marks F plan = subst (λ (v : CollectorView). IsPlanned v.processes v.marks F plan) c.self.view_is (told H c.self.invariant.1) in is.replays) c.plan_kept.ensures
+    if_ok_then c.plan_kept.result _ _
+    (λ plan told. let is : IsPlanned V.processes V.marks F plan = subst
+    (λ (v : CollectorView). IsPlanned v.processes v.marks F plan) c.self.view_is
+    (told H c.self.invariant.1) in is.replays) c.plan_kept.ensures
 
 pub returns-clause-onward : goal.returns-clause-onward
 returns-clause-onward c =
@@ -45,8 +55,12 @@ returns-clause-onward c =
     let V = c.args.self.now in
     let F = c.everyone-failed.result in
     let H = taken_history I.opening.value.processes (in_ends I.lines.items) in
-    let size = c.n.ensures.value ∙ kept_long I.forgotten H I.catalogue.processes I.catalogue.marks c.self.invariant.1 ∙ ap (λ (v : CollectorView). length v.processes) c.self.view_is in
-    let all : HaveAllFailed (length V.processes) F = subst (λ n. HaveAllFailed n F) size c.everyone-failed.ensures in
+    let size = c.n.ensures.value ∙ kept_long I.forgotten H I.catalogue.processes I.catalogue.marks
+    c.self.invariant.1 ∙ ap (λ (v : CollectorView). length v.processes) c.self.view_is in
+    let all : HaveAllFailed (length V.processes) F = subst
+    (λ n. HaveAllFailed n F) size c.everyone-failed.ensures in
     if_ok_then c.plan_kept.result _ _ (λ plan told later more.
-    let is : IsPlanned V.processes V.marks F plan = subst (λ (v : CollectorView). IsPlanned v.processes v.marks F plan) c.self.view_is (told H c.self.invariant.1) in
-    consistent_later V.processes later more V.marks F plan.line all is.latest.recoverable) c.plan_kept.ensures
+    let is : IsPlanned V.processes V.marks F plan = subst (λ (v : CollectorView). IsPlanned
+    v.processes v.marks F plan) c.self.view_is (told H c.self.invariant.1) in
+    consistent_later V.processes later more V.marks F plan.line all is.latest.recoverable)
+    c.plan_kept.ensures

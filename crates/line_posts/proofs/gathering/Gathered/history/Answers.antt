@@ -6,7 +6,8 @@ use Rattle.line_posts.proofs.gathering.Gathered.history.Goals as goal
 
 pub returns-clause-rounds : goal.returns-clause-rounds
 returns-clause-rounds c =
-    rounds_hold c.args.self.now.failed c.args.self.now.processes (subst (λ (g : GatheredView). HasOwn g.failed g.processes) c.self.view_is c.self.invariant)
+    rounds_hold c.args.self.now.failed c.args.self.now.processes
+    (subst (λ (g : GatheredView). HasOwn g.failed g.processes) c.self.view_is c.self.invariant)
 
 pub returns-clause-prefix : goal.returns-clause-prefix
 returns-clause-prefix c =

@@ -8,4 +8,6 @@ invariant_of-self c =
     let t = c.self.inside.tape.events in
     let m = c.self.inside.marker in
     let pushed = c.append_send.ensures.events in
-    journal_next m m _ t _ _ c.self.invariant tt (record { n_is = refl; me_is = refl; floor_is = refl }) (pushed ∙ ap (λ (b : List ℕ). t ++ Send c.args.to c.args.inc b ∷ []) c.bytes.ensures.value) refl
+    journal_next m m _ t _ _ c.self.invariant tt
+    (record { n_is = refl; me_is = refl; floor_is = refl }) (pushed ∙ ap
+    (λ (b : List ℕ). t ++ Send c.args.to c.args.inc b ∷ []) c.bytes.ensures.value) refl

@@ -12,8 +12,16 @@ invariant_of-self-2 c =
     let pushed = c.begin.ensures.tape in
     let begun = c.begin.ensures.same in
     let put = c.push_markers.ensures in
-    let me = c.get.ensures.value in
-    (check_keeps _ c.args.state c.in_ok-round.round _ _ _ _ h none (cc (pushed, made.tape)) (cc (put, made.ends, me)), inc, told, begun.n_is ∙ (made.same.n_is ∙ n), begun.me_is ∙ (made.same.me_is ∙ me_is), know)
+    let me = c.get.ensures.value in (
+      check_keeps _ c.args.state c.in_ok-round.round _ _ _ _ h none (cc (pushed, made.tape))
+          (cc (put, made.ends, me)),
+      inc,
+      told,
+      begun.n_is ∙ (made.same.n_is ∙ n),
+      begun.me_is ∙
+          (made.same.me_is ∙ me_is),
+      know,
+    )
 
 pub returns-clause-same : goal.returns-clause-same
 returns-clause-same c =
@@ -23,7 +31,8 @@ returns-clause-same c =
     same_via _ _ _ c.self.view_is (record {
       number = refl;
       opening = refl;
-      outs = λ q. ap (λ t. ring_at t q) put ∙ (ring_others old c.get.result q _ ∙ ap (λ t. ring_at t q) ends);
+      outs = λ q. ap (λ t. ring_at t q) put ∙
+          (ring_others old c.get.result q _ ∙ ap (λ t. ring_at t q) ends);
       ins = λ p. refl;
       line = refl;
     })

@@ -8,5 +8,12 @@ invariant_of-self-2 c =
     let pushed = c.check.ensures.tape in
     let same = c.reserve_events.ensures.tape in
     let kept = c.reserve_events.ensures.same in
-    let taken = c.check.ensures.same in
-    (alone_keeps _ c.args.state _ _ _ h (cc (pushed, same)), inc, told, taken.n_is ∙ (kept.n_is ∙ n), taken.me_is ∙ (kept.me_is ∙ me_is), know)
+    let taken = c.check.ensures.same in (
+      alone_keeps _ c.args.state _ _ _ h (cc (pushed, same)),
+      inc,
+      told,
+      taken.n_is ∙
+          (kept.n_is ∙ n),
+      taken.me_is ∙ (kept.me_is ∙ me_is),
+      know,
+    )

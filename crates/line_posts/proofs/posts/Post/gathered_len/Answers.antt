@@ -7,9 +7,12 @@ use Rattle.line_posts.proofs.posts.Post.gathered_len.Goals as goal
 
 pub returns-clause-known : goal.returns-clause-known
 returns-clause-known c =
-    gathered_known c.args.failed c.args.self.now _ _ (subst IsPost c.self.view_is c.self.invariant.0) (c.meet_end.ensures.fifo ∙ ap (λ (v : PostView). v.line.items) c.self.view_is)
+    gathered_known c.args.failed c.args.self.now _ _
+    (subst IsPost c.self.view_is c.self.invariant.0)
+    (c.meet_end.ensures.fifo ∙ ap (λ (v : PostView). v.line.items) c.self.view_is)
 
 pub returns-clause-seen : goal.returns-clause-seen
 returns-clause-seen c =
     let old = c.args.lines.now.items in
-    knows_more (known_rows old) old c.meet_end.new.ins.items c.args.p (knows_self old) c.meet_end.ensures.seen c.meet_end.ensures.others
+    knows_more (known_rows old) old c.meet_end.new.ins.items c.args.p
+    (knows_self old) c.meet_end.ensures.seen c.meet_end.ensures.others

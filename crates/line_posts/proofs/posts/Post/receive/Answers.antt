@@ -9,7 +9,8 @@ use Rattle.line_posts.proofs.posts.Post.receive.Goals as goal
 
 pub returns-then-keeps-clause-same : goal.returns-then-keeps-clause-same
 returns-then-keeps-clause-same c =
-    same_if_replayed c.receive_replay.result c.args.self.now c.receive_replay.new.self c.args.from c.receive_replay.ensures.ok c.receive_replay.ensures.err
+    same_if_replayed c.receive_replay.result c.args.self.now c.receive_replay.new.self c.args.from
+    c.receive_replay.ensures.ok c.receive_replay.ensures.err
 
 pub returns-then-keeps-clause-why : goal.returns-then-keeps-clause-why
 returns-then-keeps-clause-why c =
@@ -25,7 +26,9 @@ returns-then-keeps-clause-why c =
     let other = c.if-get.false in
     let bytes = ap length c.bytes.ensures in
     let short = c.if-bytes-gt-MOST_STATE.false in
-    if_err_given c.receive_replay.result (MayReceive c.args.self.now c.args.from) (λ e s xs. IsNotReceived c.args.self.now xs c.args.from s e) c.args.state (row_at c.receive_replay.new.self.seen c.args.from)
+    if_err_given c.receive_replay.result (MayReceive c.args.self.now c.args.from)
+    (λ e s xs. IsNotReceived c.args.self.now xs c.args.from s e) c.args.state
+    (row_at c.receive_replay.new.self.seen c.args.from)
     (record {
       process = omega (arith, within, from, len, count, long, opening);
       other = λ e. other (from2 ∙ (e ∙ (sym number ∙ sym me)));
@@ -35,7 +38,8 @@ returns-then-keeps-clause-why c =
 
 pub returns-clause-same : goal.returns-clause-same
 returns-clause-same c =
-    same_if_taken c.receive_next.result c.args.self.now c.receive_next.new.self c.args.from c.args.state c.receive_next.ensures.ok c.receive_next.ensures.err
+    same_if_taken c.receive_next.result c.args.self.now c.receive_next.new.self c.args.from
+    c.args.state c.receive_next.ensures.ok c.receive_next.ensures.err
 
 pub returns-then-get-clause-seen : goal.returns-then-get-clause-seen
 returns-then-get-clause-seen c = sees_self c.args.self.now

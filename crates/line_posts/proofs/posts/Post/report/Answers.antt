@@ -13,10 +13,15 @@ invariant_of-self-2 c =
     let J = c.self.inside.journal.tape in
     let k = c.min-k.result in
     let old = producer_end c.self.inside.line in
-    let T = length (tape_at c.self.inside.opening.value.processes c.self.inside.me) + length old.items in
-    let kept = producer_kept c.self.inside.line c.slots-room.new.self c.slots-room.ensures.looked.0 c.slots-room.ensures.looked.1 in
-    let events : take k (drop c.self.inside.reported c.tape-tape.result.now.events) ≡ take k (drop T J) = ap (λ (t : List Event). take k (drop c.self.inside.reported t)) c.tape-tape.ensures ∙ ap (λ v. take k (drop v J)) told in
-    let line = c.put_each.ensures ∙ (ap (λ e. with_items e (take k (drop c.self.inside.reported c.tape-tape.result.now.events))) kept ∙ ap (with_items old) events) in
+    let T = length
+    (tape_at c.self.inside.opening.value.processes c.self.inside.me) + length old.items in
+    let kept = producer_kept c.self.inside.line c.slots-room.new.self c.slots-room.ensures.looked.0
+    c.slots-room.ensures.looked.1 in
+    let events : take k (drop c.self.inside.reported c.tape-tape.result.now.events)
+    ≡ take k (drop T J) = ap (λ (t : List Event). take k (drop c.self.inside.reported t))
+    c.tape-tape.ensures ∙ ap (λ v. take k (drop v J)) told in
+    let line = c.put_each.ensures ∙ (ap (λ e. with_items e (take k (drop c.self.inside.reported
+    c.tape-tape.result.now.events))) kept ∙ ap (with_items old) events) in
     let within = reported_within _ h in
     let left = c.min-k.ensures in
     let len = c.len.ensures.value in

@@ -18,7 +18,8 @@ invariant_of-self-2 c =
     let numbered = c.sends-number.ensures in
     let to = c.get.ensures.value in
     let last = c.send.ensures.same in (
-      send_keeps _ c.args.to c.args.body _ _ _ _ h (omega (arith, count, long, c.in_default.ensures.process)) c.in_default.ensures.other
+      send_keeps _ c.args.to c.args.body _ _ _ _ h
+          (omega (arith, count, long, c.in_default.ensures.process)) c.in_default.ensures.other
           (cc (sent, free.tape, inc)) (cc (put, to, numbered, inc, free.tape, free.ends)),
       inc,
       told,
@@ -30,11 +31,20 @@ invariant_of-self-2 c =
 pub returns-clause-same : goal.returns-clause-same
 returns-clause-same c =
     let free = c.make_way.ensures.ends in
-    let put : out_ends c.push_known.new.outs.items ≡ with_item (out_ends c.self.inside.outs.items) c.get.result (Message (record { inc = c.self.inside.incarnation; number = c.sends-number.result; body = c.args.body })) = cc (c.push_known.ensures.ends, free) in
+    let put : out_ends c.push_known.new.outs.items
+    ≡ with_item (out_ends c.self.inside.outs.items) c.get.result
+    (Message (record {
+      inc = c.self.inside.incarnation;
+      number = c.sends-number.result;
+      body =
+          c.args.body;
+    })) = cc (c.push_known.ensures.ends, free) in
     same_via _ _ _ c.self.view_is (record {
       number = refl;
       opening = refl;
-      outs = λ q. ap (λ t. ring_at t q) put ∙ ring_item (out_ends c.self.inside.outs.items) c.get.result q (Message (record { inc = c.self.inside.incarnation; number = c.sends-number.result; body = c.args.body }));
+      outs = λ q. ap (λ t. ring_at t q) put ∙ ring_item
+          (out_ends c.self.inside.outs.items) c.get.result q (Message (record
+          { inc = c.self.inside.incarnation; number = c.sends-number.result; body = c.args.body }));
       ins = λ p. refl;
       line = refl;
     })

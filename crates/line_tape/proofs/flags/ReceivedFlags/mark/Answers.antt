@@ -14,7 +14,15 @@ loop-receiver-preserved c =
     let line : List Choice = c.args.line.now in
     let r : ℕ = c.loop-receiver.receiver in
     let at : c.unwrap-q.result ≡ r = (rw c.unwrap-q.ensures at c.try_new.ensures).1 in
-    let told : AreTold history line (with_seen (seen_below history line r) r (seen_below history line r r ++ events_before history line r)) c.add_receipts.new.received.items = subst (λ q. AreTold history line (with_seen (seen_below history line r) q (seen_below history line r q ++ events_before history line q)) c.add_receipts.new.received.items) at (c.add_receipts.ensures.told (seen_below history line r) c.loop-receiver.invariant) in
+    let told : AreTold history line
+    (with_seen (seen_below history line r) r
+    (seen_below history line r r ++ events_before history line r))
+    c.add_receipts.new.received.items = subst
+    (λ q. AreTold history line
+    (with_seen (seen_below history line r) q
+    (seen_below history line r q ++ events_before history line q))
+    c.add_receipts.new.received.items) at
+    (c.add_receipts.ensures.told (seen_below history line r) c.loop-receiver.invariant) in
     told-same history line _ _ c.add_receipts.new.received.items (seen-further history line r) told
 
 pub returns : goal.returns
@@ -23,4 +31,6 @@ returns c =
     let line : List Choice = c.args.line.now in
     let r : ℕ = c.loop-receiver.receiver in
     let before : ℕ → List Event = λ q. events_before history line q in
-    told-same history line (seen_below history line r) before c.loop-receiver.self-inside.senders.items (λ to. seen-all history line r to (omega (arith, c.n-n.ensures.value))) c.loop-receiver.invariant
+    told-same history line
+    (seen_below history line r) before c.loop-receiver.self-inside.senders.items (λ to. seen-all
+    history line r to (omega (arith, c.n-n.ensures.value))) c.loop-receiver.invariant

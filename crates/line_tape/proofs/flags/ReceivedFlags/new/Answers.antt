@@ -12,5 +12,14 @@ returns c = λ line. record {
   processes = omega (arith, c.loop-q.invariant.0, c.n-n.ensures.value);
   sends_of = λ p within.
       let tape : List Event = tape_at c.args.history.now.processes p in
-      omega (arith, c.loop-q.invariant.1 p (omega (arith, c.loop-q.invariant.0, c.n-n.ensures.value, within)), sends_take tape (place tape (choice_at line p)));
+      omega (
+        arith,
+        c.loop-q.invariant.1 p (omega (
+          arith,
+          c.loop-q.invariant.0,
+          c.n-n.ensures.value,
+          within,
+        )),
+        sends_take tape (place tape (choice_at line p)),
+      );
 }

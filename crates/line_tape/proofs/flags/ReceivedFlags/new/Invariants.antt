@@ -5,4 +5,5 @@ use Rattle.line_tape.proofs.flags.ReceivedFlags.new.Given as goal
 
 abbrev pub invariant-loop-q : goal.invariant-loop-q
 invariant-loop-q l =
-    (length l.senders.items ≡ l.q) × ((p : ℕ) → p < l.q → length (get_or l.senders.items p []) ≡ sends (tape_at l.history.processes p))
+    (length l.senders.items ≡ l.q) × ((p : ℕ) → p < l.q
+    → length (get_or l.senders.items p []) ≡ sends (tape_at l.history.processes p))

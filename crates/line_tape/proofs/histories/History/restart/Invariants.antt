@@ -6,4 +6,6 @@ use Rattle.line_tape.proofs.histories.History.restart.Given as goal
 
 abbrev pub invariant-loop-p : goal.invariant-loop-p
 invariant-loop-p l =
-    (map process_kept l.self-inside.processes.items ≡ so_far restarted_process l.fn.self.processes l.line l.p) × ((q : ℕ) → get_or l.fn.self.rooms q 0 ≤ get_or (map tape_room l.self-inside.processes.items) q 0)
+    (map process_kept l.self-inside.processes.items
+    ≡ so_far restarted_process l.fn.self.processes l.line l.p) × ((q : ℕ)
+    → get_or l.fn.self.rooms q 0 ≤ get_or (map tape_room l.self-inside.processes.items) q 0)

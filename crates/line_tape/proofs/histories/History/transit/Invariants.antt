@@ -5,4 +5,5 @@ use Rattle.line_tape.proofs.histories.History.transit.Given as goal
 
 abbrev pub invariant-loop-sender : goal.invariant-loop-sender
 invariant-loop-sender l =
-    l.messages.items ≡ flat_map (λ p. map (λ (letter : Letter). letter.message) (open_letters l.self.processes l.line p)) (range_with_len 0 l.sender)
+    l.messages.items ≡ flat_map (λ p. map (λ (letter : Letter). letter.message)
+    (open_letters l.self.processes l.line p)) (range_with_len 0 l.sender)

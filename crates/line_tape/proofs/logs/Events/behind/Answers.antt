@@ -7,6 +7,8 @@ use Rattle.line_tape.proofs.logs.Events.behind.Goals as goal
 
 pub returns : goal.returns
 returns c =
-    ap (λ (events : List KeptEvent). map (event_from_kept c.self.inside.bodies.now c.self.inside.states.now) events) (take_rest c.self.inside.events.now c.args.start)
-    ∙ events_behind c.self.inside.bodies.now c.self.inside.states.now c.self.inside.events.now c.args.start
+    ap (λ (events : List KeptEvent). map (event_from_kept c.self.inside.bodies.now
+    c.self.inside.states.now) events) (take_rest c.self.inside.events.now c.args.start)
+    ∙ events_behind c.self.inside.bodies.now c.self.inside.states.now c.self.inside.events.now
+    c.args.start
     ∙ ap (drop c.args.start) c.self.view_is

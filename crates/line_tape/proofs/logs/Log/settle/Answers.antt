@@ -12,14 +12,21 @@ use Rattle.line_tape.proofs.logs.Log.settle.Goals as goal
 
 pub restart_events-requires-clause-settled : goal.restart_events-requires-clause-settled
 restart_events-requires-clause-settled c =
-    settled-kept c.self.inside.bodies.items c.self.inside.states.items c.self.inside.events.items c.args.settled (subst (λ (es : List Event). All IsSettled (take c.args.settled es)) (sym (ap (λ (l : LogView). l.events) c.self.view_is)) c.requires.settled)
+    settled-kept c.self.inside.bodies.items c.self.inside.states.items c.self.inside.events.items
+    c.args.settled (subst (λ (es : List Event). All IsSettled (take c.args.settled es))
+    (sym (ap (λ (l : LogView). l.events) c.self.view_is)) c.requires.settled)
 
 pub invariant_of-self : goal.invariant_of-self
 invariant_of-self c =
-    subst (λ (es : List KeptEvent). IsLaid es 0 0 (length c.self.inside.bodies.items) (length c.self.inside.states.items)) (sym c.restart_events.ensures.items) (laid-restarted c.self.inside.events.items 0 0 (length c.self.inside.bodies.items) (length c.self.inside.states.items) c.self.invariant)
+    subst (λ (es : List KeptEvent). IsLaid es 0 0 (length c.self.inside.bodies.items)
+    (length c.self.inside.states.items)) (sym c.restart_events.ensures.items)
+    (laid-restarted c.self.inside.events.items 0 0 (length c.self.inside.bodies.items)
+    (length c.self.inside.states.items) c.self.invariant)
 
 pub returns-clause-events : goal.returns-clause-events
 returns-clause-events c =
-    ap (λ (es : List KeptEvent). map (event_from_kept c.self.inside.bodies.items c.self.inside.states.items) es) c.restart_events.ensures.items
-    ∙ events-restarted c.self.inside.bodies.items c.self.inside.states.items c.self.inside.events.items
+    ap (λ (es : List KeptEvent). map (event_from_kept c.self.inside.bodies.items
+    c.self.inside.states.items) es) c.restart_events.ensures.items
+    ∙ events-restarted c.self.inside.bodies.items c.self.inside.states.items
+    c.self.inside.events.items
     ∙ ap (λ (l : LogView). filter_map restarted_event l.events) c.self.view_is

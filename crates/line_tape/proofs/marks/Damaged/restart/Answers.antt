@@ -1,5 +1,6 @@
 -- The mark that is taken off is on a later check; where none is left, all pass.
-use Rattle.std.proofs.Common.{◌≡◌, ℕ, ◌-◌, ◌∷◌, ◌++◌, [], List, Bool, false, length, filter, refl, sym, ap, ◌∙◌, subst, arith}
+use Rattle.std.proofs.Common.{◌≡◌, ℕ, ◌-◌, ◌∷◌, ◌++◌, [], List, Bool, false, length, filter, refl}
+use Rattle.std.proofs.Common.{sym, ap, ◌∙◌, subst, arith}
 use Rattle.std.specs.Prelude.{Some, slice_get}
 use Rattle.std.proofs.lemmas.Bool.{le-leb, lt-leb}
 use Rattle.line_names.specs.declared.choices.Choice.{Choice}
@@ -10,7 +11,8 @@ use Rattle.line_tape.proofs.EachLemmas.{kept_now}
 use Rattle.line_tape.proofs.MarkedLemmas.{marked_all, marked_cut, numbered_front, popped_is}
 use Rattle.line_tape.proofs.marks.Damaged.restart.Goals as goal
 
-kept : (choice : Choice) (checks : List ℕ) → ((last : ℕ) → choice ≡ AtCheck last → ⊥) → checks ≡ filter (is_kept choice) checks
+kept : (choice : Choice) (checks : List ℕ) → ((last : ℕ) → choice ≡ AtCheck last → ⊥)
+    → checks ≡ filter (is_kept choice) checks
 kept (AtCheck last) checks not = absurd (not last refl)
 kept Now checks not = sym (kept_now checks)
 
@@ -34,7 +36,8 @@ loop-check-preserved c =
           (ap (λ (es : List (ℕ × ℕ)). filter stays (checks_marked es)) whole
           ∙ marked_cut stays new (check, number) goes) ∙ c.loop-check.invariant.kept;
       numbered = numbered_front c.loop-check.self-inside.next new (check, number)
-          (subst (AreNumberedBelow c.loop-check.self-inside.next) whole c.loop-check.invariant.numbered);
+          (subst (AreNumberedBelow c.loop-check.self-inside.next) whole
+          c.loop-check.invariant.numbered);
     }
 
 pub returns-then-check-last : goal.returns-then-check-last

@@ -8,5 +8,6 @@ bounds-receipts-at c =
     let i : ℕ = c.args.link - 1 in
     let within : i < length c.args.receipts.now = omega arith in
     let far : ℕ = (receipt_at c.args.receipts.now i).far in
-    let l : far - 1 < i = ((c.requires.chained.far i within c.requires.ahead).each (far - 1) (omega arith)).0 in
+    let l : far - 1 < i =
+    ((c.requires.chained.far i within c.requires.ahead).each (far - 1) (omega arith)).0 in
     omega arith

@@ -15,7 +15,8 @@ bounds-receipts-before c =
     let rs : List Receipt = c.args.receipts.now in
     let k : ℕ = c.args.last - 1 in
     let some : c.args.last ≡ suc k = omega arith in
-    let here : (k < length rs) × IsAhead rs k × (from_of (name_at rs k) ≡ c.args.receipt.from) = c.requires.last.back.each k some in
+    let here : (k < length rs) × IsAhead rs k
+    × (from_of (name_at rs k) ≡ c.args.receipt.from) = c.requires.last.back.each k some in
     let low : k < length rs = here.0 in
     let far : ℕ = (receipt_at rs k).far in
     let further : far ≡ suc (far - 1) = omega arith in
@@ -27,10 +28,14 @@ returns-clause-far c =
     let rs : List Receipt = c.args.receipts.now in
     let k : ℕ = c.args.last - 1 in
     let some : c.args.last ≡ suc k = omega arith in
-    let here : (k < length rs) × IsAhead rs k × (from_of (name_at rs k) ≡ c.args.receipt.from) = c.requires.last.back.each k some in
+    let here : (k < length rs) × IsAhead rs k
+    × (from_of (name_at rs k) ≡ c.args.receipt.from) = c.requires.last.back.each k some in
     let low : k < length rs = here.0 in
     let far : ℕ = (receipt_at rs k).far in
     let further : far ≡ suc (far - 1) = omega arith in
-    let there : (far - 1 < k) × IsAhead rs (far - 1) × (from_of (name_at rs (far - 1)) ≡ from_of (name_at rs k)) = (c.requires.chained.far k low here.1).each (far - 1) further in
+    let there : (far - 1 < k) × IsAhead rs (far - 1) × (from_of (name_at rs (far - 1))
+    ≡ from_of (name_at rs k)) = (c.requires.chained.far k low here.1).each (far - 1) further in
     let l : far - 1 < k = there.0 in
-    back_wide rs (far - 1) (length rs) (from_of (name_at rs (far - 1))) c.args.receipt.from (receipt_at rs (far - 1)).far (omega arith) (there.2 ∙ here.2) (c.requires.chained.far (far - 1) (omega arith) there.1)
+    back_wide rs (far - 1) (length rs) (from_of (name_at rs (far - 1))) c.args.receipt.from
+    (receipt_at rs (far - 1)).far (omega arith) (there.2 ∙ here.2)
+    (c.requires.chained.far (far - 1) (omega arith) there.1)

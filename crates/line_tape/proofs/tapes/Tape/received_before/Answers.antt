@@ -16,6 +16,17 @@ returns c =
     let before : List Event = front tape c.args.choice in
     let m : MsgName = c.args.message.now in
     let seen : c.self.inside.log.events ≡ tape = ap (λ (t : TapeView). t.events) c.self.view_is in
-    let names : c.self.inside.receipts.names ≡ names_received tape = c.self.invariant.received ∙ ap names_received seen in
-    let fronts : take c.row.result.receipts c.self.inside.receipts.names ≡ names_received before = ap (λ (n : ℕ). take n c.self.inside.receipts.names) c.row.ensures.receipts ∙ ap (take (length (names_received before))) names ∙ sym (told_front received_name tape (place tape c.args.choice)) in
-    (λ h. (names_contain before m).0 (subst (λ (xs : List MsgName). Contains xs m) fronts (c.is_before.ensures.0 h)), λ k. c.is_before.ensures.1 (subst (λ (xs : List MsgName). Contains xs m) (sym fronts) ((names_contain before m).1 k)))
+    let names : c.self.inside.receipts.names
+    ≡ names_received tape = c.self.invariant.received ∙ ap names_received seen in
+    let fronts : take c.row.result.receipts c.self.inside.receipts.names
+    ≡ names_received before = ap
+    (λ (n : ℕ). take n c.self.inside.receipts.names) c.row.ensures.receipts ∙ ap
+    (take (length (names_received before))) names ∙ sym
+    (told_front received_name tape (place tape c.args.choice)) in (
+      λ h. (names_contain before m).0
+          (subst (λ (xs : List MsgName). Contains xs m) fronts (c.is_before.ensures.0 h)),
+      λ k.
+          c.is_before.ensures.1
+          (subst (λ (xs : List MsgName). Contains xs m) (sym fronts)
+          ((names_contain before m).1 k)),
+    )

@@ -1,5 +1,6 @@
 -- No queue changes, and no link does; and no round is completed.
-use Rattle.std.proofs.Common.{◌≡◌, ◌<◌, ℕ, List, [], ◌∷◌, None, refl, subst, ap, ◌∙◌, length, arith, Option}
+use Rattle.std.proofs.Common.{◌≡◌, ◌<◌, ℕ, List, [], ◌∷◌, None, refl, subst, ap, ◌∙◌, length, arith}
+use Rattle.std.proofs.Common.{Option}
 use Rattle.std.proofs.lemmas.Grind.{common_steps}
 use Rattle.line_tape.specs.declared.events.Event.{Event}
 use Rattle.line_tape.specs.declared.events.Event.TheVariants.{Check as CheckEvent}
@@ -29,28 +30,43 @@ invariant_of-self-2 c =
     let history : List Process = w.catalogue.processes in
     let mode : Mode = mode_of w.protocol in
     let e : Event = CheckEvent c.of.result None in
-    let within : c.args.at < length history = omega (arith, ap (λ (h : List Process). length h) c.history-history.ensures.processes) in
-    kept_with mode running w.protocol refl refl c.add_check.new.catalogue.processes (with_event history c.args.at e) c.in_ok-check.ensures.checked w.links w.last_round w.rounds.items
+    let within : c.args.at < length history = omega
+    (arith, ap (λ (h : List Process). length h) c.history-history.ensures.processes) in
+    kept_with mode running w.protocol refl refl c.add_check.new.catalogue.processes (with_event
+    history c.args.at e) c.in_ok-check.ensures.checked w.links w.last_round w.rounds.items
     (IsWorld-check history w.links mode c.self.invariant.0 c.args.at c.of.result within)
-    (AreRounds-kept history c.args.at e within (λ r. refl) (λ r p. refl) mode w.last_round running running w.rounds.items refl
-    (IsOpening-kept history c.args.at e within (λ r. refl) mode running (λ r p. refl) (λ r p. refl) c.self.invariant.1.opening) c.self.invariant.1)
-    (IsFollowing-check history w.links w.protocol c.self.invariant.0 c.args.at c.of.result within c.self.invariant.2)
+    (AreRounds-kept history c.args.at e within (λ r. refl)
+    (λ r p. refl) mode w.last_round running running w.rounds.items refl
+    (IsOpening-kept history c.args.at e within (λ r. refl) mode running (λ r p. refl)
+    (λ r p. refl) c.self.invariant.1.opening) c.self.invariant.1)
+    (IsFollowing-check history w.links w.protocol c.self.invariant.0 c.args.at c.of.result within
+    c.self.invariant.2)
 
 pub returns-clause-done : goal.returns-clause-done
 returns-clause-done c =
-    let none : refusal_of c.args.self.now (Check c.args.at c.args.state.now) ≡ None = grind (arith, common_steps) in
+    let none : refusal_of c.args.self.now (Check c.args.at c.args.state.now)
+    ≡ None = grind (arith, common_steps) in
     let history : List Process = c.self.inside.catalogue.processes in
     let mode : Mode = mode_of c.self.inside.protocol in
     let last : ℕ = c.self.inside.last_round in
     let rounds : List ListedRound = c.self.inside.rounds.items in
     let e : Event = CheckEvent c.args.state.now None in
-    let within : c.args.at < length history = omega (arith, ap (λ (h : List Process). length h) c.history-history.ensures.processes) in
-    let after : Machine = seen mode c.add_check.new.catalogue.processes c.add_check.new.catalogue.marks last rounds c.self.inside.links in
-    let done : c.add_check.new.catalogue.processes ≡ with_event history c.args.at e = c.in_ok-check.ensures.checked ∙ ap (λ (bytes : List ℕ). with_event history c.args.at (CheckEvent bytes None)) (c.of.ensures ∙ c.in_ok-bytes.ensures.items) in (
+    let within : c.args.at < length history = omega
+    (arith, ap (λ (h : List Process). length h) c.history-history.ensures.processes) in
+    let after : Machine = seen mode c.add_check.new.catalogue.processes
+    c.add_check.new.catalogue.marks last rounds c.self.inside.links in
+    let done : c.add_check.new.catalogue.processes
+    ≡ with_event history c.args.at e = c.in_ok-check.ensures.checked ∙ ap
+    (λ (bytes : List ℕ). with_event history c.args.at (CheckEvent bytes None))
+    (c.of.ensures ∙ c.in_ok-bytes.ensures.items) in (
       none,
-      subst (λ (m : Machine). Does m (Check c.args.at c.args.state.now) (Checked c.args.at c.in_ok-check.check) after) c.self.view_is (
-        ap (λ (k : ℕ). Checked c.args.at k) c.in_ok-check.ensures.check,
-        quiet_seen mode history c.add_check.new.catalogue.processes c.self.inside.catalogue.marks c.add_check.new.catalogue.marks last rounds c.self.inside.links c.self.inside.links c.args.at (e ∷ []) done c.in_ok-check.ensures.marks refl
-            (none_listed history c.args.at e within (λ r. refl) (λ r p. refl) mode last),
-      ),
+      subst (λ (m : Machine). Does m (Check c.args.at c.args.state.now)
+          (Checked c.args.at c.in_ok-check.check) after) c.self.view_is (
+            ap (λ (k : ℕ). Checked c.args.at k) c.in_ok-check.ensures.check,
+            quiet_seen mode history c.add_check.new.catalogue.processes
+                c.self.inside.catalogue.marks
+                c.add_check.new.catalogue.marks last rounds c.self.inside.links c.self.inside.links
+                c.args.at (e ∷ []) done c.in_ok-check.ensures.marks refl
+                (none_listed history c.args.at e within (λ r. refl) (λ r p. refl) mode last),
+          ),
     )

@@ -18,20 +18,28 @@ use Rattle.line_world.proofs.worlds.World.last_round.Goals as goal
 
 pub returns-clause-greatest : goal.returns-clause-greatest
 returns-clause-greatest c =
-    subst (λ (m : Machine). (p r : ℕ) → IsTrue (has_check_of r (tape_at m.history p)) → r ≤ m.last_round) c.self.view_is c.self.invariant.1.numbers
+    subst (λ (m : Machine). (p r : ℕ) → IsTrue (has_check_of r (tape_at m.history p))
+    → r ≤ m.last_round) c.self.view_is c.self.invariant.1.numbers
 
 pub returns-clause-numbered : goal.returns-clause-numbered
 returns-clause-numbered c =
     let w : Inside = c.self.inside in
     subst (λ (m : Machine). AreNumbered (m.last_round + 1) m.rounds) c.self.view_is
-    (AreNumbered-weaker (first_unlisted (open_round_of w.protocol) w.last_round) (w.last_round + 1) w.rounds.items (let most = first_most (open_round_of w.protocol) w.last_round in omega (arith, most)) c.self.invariant.1.numbered)
+    (AreNumbered-weaker (first_unlisted (open_round_of w.protocol) w.last_round)
+    (w.last_round + 1) w.rounds.items (let most = first_most
+    (open_round_of w.protocol) w.last_round in omega (arith, most)) c.self.invariant.1.numbered)
 
-idle_kept : (w : Inside) (machine : Machine) → shown w ≡ machine → IsKept w → machine.mode ≡ Fifo → is_open machine ≡ false → IsIdle machine.history machine.last_round
+idle_kept : (w : Inside) (machine : Machine) → shown w ≡ machine → IsKept w → machine.mode ≡ Fifo
+    → is_open machine ≡ false → IsIdle machine.history machine.last_round
 idle_kept w machine view kept fifo shut =
     let told : is_some (open_round_of w.protocol) ≡ is_open machine =
-    open_told (mode_of w.protocol) w.catalogue.processes w.last_round (open_round_of w.protocol) kept.1.opening kept.1.unfinished ∙ ap is_open view in
+    open_told (mode_of w.protocol) w.catalogue.processes w.last_round
+    (open_round_of w.protocol) kept.1.opening kept.1.unfinished ∙ ap is_open view in
     subst (λ (m : Machine). IsIdle m.history m.last_round) view
-    (shut_idle (mode_of w.protocol) w.catalogue.processes w.last_round (open_round_of w.protocol) w.links w.rounds.items (ap (λ (m : Machine). m.mode) view ∙ fifo) kept.0 kept.1 (told ∙ shut))
+    (shut_idle (mode_of w.protocol) w.catalogue.processes w.last_round
+    (open_round_of w.protocol) w.links w.rounds.items
+    (ap (λ (m : Machine). m.mode) view ∙ fifo) kept.0 kept.1 (told ∙ shut))
 
 pub returns-clause-idle : goal.returns-clause-idle
-returns-clause-idle c = λ fifo shut. idle_kept c.self.inside c.args.self.now c.self.view_is c.self.invariant fifo shut
+returns-clause-idle c =
+    λ fifo shut. idle_kept c.self.inside c.args.self.now c.self.view_is c.self.invariant fifo shut

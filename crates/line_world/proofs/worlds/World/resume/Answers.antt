@@ -5,6 +5,7 @@ use Rattle.line_world.proofs.worlds.World.resume.Goals as goal
 pub invariant_of-result : goal.invariant_of-result
 invariant_of-result c = (
   c.in_ok-links.ensures,
-  present_rounds c.args.catalogue.processes c.args.last_round c.args.rounds.items c.requires.idle c.requires.snapshots c.requires.numbered,
+  present_rounds c.args.catalogue.processes c.args.last_round c.args.rounds.items c.requires.idle
+      c.requires.snapshots c.requires.numbered,
   tt,
 )

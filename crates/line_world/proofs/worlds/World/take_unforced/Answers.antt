@@ -1,5 +1,6 @@
 -- A copy is put on the tape.
-use Rattle.std.proofs.Common.{◌≡◌, ◌+◌, ℕ, Bool, List, [], ◌∷◌, length, Option, Some, None, refl, sym, ap, ◌∙◌, subst}
+use Rattle.std.proofs.Common.{◌≡◌, ◌+◌, ℕ, Bool, List, [], ◌∷◌, length, Option, Some, None, refl}
+use Rattle.std.proofs.Common.{sym, ap, ◌∙◌, subst}
 use Rattle.std.specs.Prelude.{nat_lt, slice_get}
 use Rattle.line_names.specs.declared.messages.MsgName.{MsgName}
 use Rattle.line_tape.specs.declared.events.Event.{Event}
@@ -49,19 +50,29 @@ invariant_of-self-in-Colours c =
     let colours : List ProcessTurns = c.in-Colours.colours in
     let received : List (List Bool) = c.in-Colours.received in
     let copy : IsTakenCopy w turning colours received from to pick m None =
-    is_copy w c.args.self.now c.self.view_is c.self.invariant from to pick c.args._state.now c.requires.passed turning colours received c.in-Colours.is m c.requires.picked c.requires.taken None c.requires.unforced in
+    is_copy w c.args.self.now c.self.view_is c.self.invariant from to pick c.args._state.now
+    c.requires.passed turning colours received c.in-Colours.is m c.requires.picked
+    c.requires.taken None c.requires.unforced in
     let is : IsColoured w turning colours received = copy.coloured in
     let p : IsPicked w from to pick (Message m) = copy.picked in
-    let done : c.take_copy.new.catalogue.processes ≡ with_event history to e = c.in_ok-take_copy-in-Colours.ensures.taken in (
+    let done : c.take_copy.new.catalogue.processes
+    ≡ with_event history to e = c.in_ok-take_copy-in-Colours.ensures.taken in (
       subst (λ (h : List Process). IsWorld Unordered h w.links) (sym done)
-          (IsWorld-take history w.links from to p.from_in p.to_in m p.of_sender pick p.at p.apart Unordered is.world (λ f. p.first (is.mode_is ∙ f)) copy.fate),
-      subst (λ (h : List Process). AreRounds Unordered h last (opened_turning turning) w.rounds.items) (sym done)
-          (AreRounds-kept history to e p.to_in (λ r. refl) (λ r q. refl) Unordered last (opened_turning turning) (opened_turning turning) w.rounds.items refl
-          (IsOpening-unordered history to e p.to_in (λ r. refl) (opened_turning turning) is.are.opening) is.are),
+          (IsWorld-take history w.links from to p.from_in p.to_in m p.of_sender pick p.at p.apart
+          Unordered is.world (λ f. p.first (is.mode_is ∙ f)) copy.fate),
+      subst (λ (h : List Process). AreRounds Unordered h last
+          (opened_turning turning) w.rounds.items) (sym done)
+          (AreRounds-kept history to e p.to_in (λ r. refl) (λ r q. refl) Unordered last
+          (opened_turning turning) (opened_turning turning) w.rounds.items refl
+          (IsOpening-unordered history to e p.to_in (λ r. refl)
+          (opened_turning turning) is.are.opening) is.are),
       (
-        subst (λ (h : List Process). IsPainted h colours) (sym done) (painted_take history w.links colours from to p.from_in p.to_in m p.of_sender pick p.at is.world copy.fate copy.forces is.painted),
+        subst (λ (h : List Process). IsPainted h colours) (sym done)
+            (painted_take history w.links colours from to p.from_in p.to_in m p.of_sender pick p.at
+            is.world copy.fate copy.forces is.painted),
         subst (λ (h : List Process). AreFlagged h c.receive.new.self) (sym done)
-            (c.receive.ensures.received history to is.flagged p.to_in (sent_here history w.links from to m pick p.from_in p.to_in p.at is.world copy.held)),
+            (c.receive.ensures.received history to is.flagged p.to_in (sent_here history w.links
+            from to m pick p.from_in p.to_in p.at is.world copy.held)),
       ),
     )
 
@@ -80,25 +91,38 @@ returns-clause-done c =
     let colours : List ProcessTurns = c.in-Colours.colours in
     let received : List (List Bool) = c.in-Colours.received in
     let copy : IsTakenCopy w turning colours received from to pick m None =
-    is_copy w c.args.self.now c.self.view_is c.self.invariant from to pick state c.requires.passed turning colours received c.in-Colours.is m c.requires.picked c.requires.taken None c.requires.unforced in
+    is_copy w c.args.self.now c.self.view_is c.self.invariant from to pick state c.requires.passed
+    turning colours received c.in-Colours.is m c.requires.picked c.requires.taken None
+    c.requires.unforced in
     let is : IsColoured w turning colours received = copy.coloured in
     let p : IsPicked w from to pick (Message m) = copy.picked in
     let forced : Option ℕ = forced_round Unordered history to m in
-    let events : events_of (fate_of Unordered history to m) forced state m ≡ e ∷ [] = ap (λ (f : Fate). events_of f forced state m) copy.fate ∙ ap (λ (o : Option ℕ). events_of IsTaken o state m) copy.forces in
+    let events : events_of (fate_of Unordered history to m) forced state m
+    ≡ e ∷ [] = ap (λ (f : Fate). events_of f forced state m) copy.fate ∙ ap
+    (λ (o : Option ℕ). events_of IsTaken o state m) copy.forces in
     let old : Machine = seen Unordered history w.catalogue.marks last w.rounds.items w.links in
-    let next : Machine = seen Unordered c.take_copy.new.catalogue.processes c.take_copy.new.catalogue.marks last w.rounds.items w.links in
-    let same : old ≡ c.args.self.now = here w c.args.self.now c.self.view_is c.self.invariant Unordered is.mode_is in
+    let next : Machine = seen Unordered c.take_copy.new.catalogue.processes
+    c.take_copy.new.catalogue.marks last w.rounds.items w.links in
+    let same : old ≡ c.args.self.now = here w c.args.self.now c.self.view_is c.self.invariant
+    Unordered is.mode_is in
     subst (λ (v : Machine). Takes v (Deliver from to pick state) (Done (Took m None)) next) same
-    (subst (λ (r : Reply). Takes old (Deliver from to pick state) (Done r) next) (ap (λ (f : Fate). reply_of f forced m) copy.fate ∙ ap (λ (o : Option ℕ). reply_of IsTaken o m) copy.forces)
+    (subst (λ (r : Reply). Takes old (Deliver from to pick state) (Done r) next) (ap (λ (f : Fate).
+    reply_of f forced m) copy.fate ∙ ap (λ (o : Option ℕ). reply_of IsTaken o m) copy.forces)
     (Takes-delivered old from to pick state (Message m)
-    (subst (λ (v : Machine). first_cause (link_causes v from to pick state) ≡ None) (sym same) c.requires.passed)
-    (subst (λ (v : Machine). slice_get (items_on v from to) pick ≡ Some (Message m)) (sym same) c.requires.picked) next
+    (subst (λ (v : Machine). first_cause (link_causes v from to pick state) ≡ None)
+    (sym same) c.requires.passed)
+    (subst (λ (v : Machine). slice_get (items_on v from to) pick ≡ Some (Message m))
+    (sym same) c.requires.picked) next
     (ap (λ (es : List Event). is_full old to (length es)) events
-    ∙ ap (λ (h : List Process). nat_lt MOST_EVENTS (length (tape_at h to) + 1)) (sym c.history.ensures.processes) ∙ sym c.lacks_room.ensures ∙ c.if-lacks_room.false)
-    (quiet_seen Unordered history c.take_copy.new.catalogue.processes w.catalogue.marks c.take_copy.new.catalogue.marks last w.rounds.items w.links w.links to (e ∷ [])
-    c.in_ok-take_copy-in-Colours.ensures.taken c.in_ok-take_copy-in-Colours.ensures.marks refl (none_listed history to e p.to_in (λ r. refl) (λ r q. refl) Unordered last)
+    ∙ ap (λ (h : List Process). nat_lt MOST_EVENTS (length (tape_at h to) + 1))
+    (sym c.history.ensures.processes) ∙ sym c.lacks_room.ensures ∙ c.if-lacks_room.false)
+    (quiet_seen Unordered history c.take_copy.new.catalogue.processes w.catalogue.marks
+    c.take_copy.new.catalogue.marks last w.rounds.items w.links w.links to (e ∷ [])
+    c.in_ok-take_copy-in-Colours.ensures.taken c.in_ok-take_copy-in-Colours.ensures.marks refl
+    (none_listed history to e p.to_in (λ r. refl) (λ r q. refl) Unordered last)
     ∙ ap (λ (es : List Event). with_step old to es last) (sym events))))
 
 -- links that keep their order have markers
 pub unreachable-requires : goal.unreachable-requires
-unreachable-requires c = one_kind (mode_of c.self.inside.protocol) (ap mode_of c.in-Markers.is) (ap (λ (v : Machine). v.mode) c.self.view_is ∙ c.requires.unordered)
+unreachable-requires c = one_kind (mode_of c.self.inside.protocol) (ap mode_of c.in-Markers.is)
+    (ap (λ (v : Machine). v.mode) c.self.view_is ∙ c.requires.unordered)

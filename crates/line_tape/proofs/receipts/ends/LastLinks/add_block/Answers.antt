@@ -1,5 +1,6 @@
 -- The sixteen has no block yet, so there are fifteen at most, and one more is in the room.
-use Rattle.std.proofs.Common.{◌≡◌, ◌<◌, ◌+◌, ◌/◌, ℕ, suc, List, length, get_or, set, vec_len, ap, subst, sym, ◌∙◌, arith, rules}
+use Rattle.std.proofs.Common.{◌≡◌, ◌<◌, ◌+◌, ◌/◌, ℕ, suc, List, length, get_or, set, vec_len, ap}
+use Rattle.std.proofs.Common.{subst, sym, ◌∙◌, arith, rules}
 use Rattle.line_tape.specs.Ends.{AreBlocks, EndsView, link_of_sender, block_count}
 use Rattle.line_tape.proofs.EndLemmas.{blocks_more, ends_more, taken_lt}
 use Rattle.line_tape.proofs.receipts.ends.LastLinks.add_block.Goals as goal
@@ -11,7 +12,8 @@ overflow_cast-block c =
     let low : c.args.sender / 16 < length bs = omega (arith, c.ranges.sender.fits) in
     let none : get_or bs (c.args.sender / 16) 0 ≡ 0 = c.if-self-group-ne0.false in
     let few : block_count bs < length bs = taken_lt bs (c.args.sender / 16) low none in
-    let long : length c.self.inside.links.items ≡ vec_len c.self.inside.links = omega (arith, c.self.inside.links.ok.0) in
+    let long : length c.self.inside.links.items
+    ≡ vec_len c.self.inside.links = omega (arith, c.self.inside.links.ok.0) in
     omega (arith, c.self.invariant.full, c.len.ensures)
 
 pub overflow_add-block : goal.overflow_add-block
@@ -21,7 +23,8 @@ overflow_add-block c =
     let low : c.args.sender / 16 < length bs = omega (arith, c.ranges.sender.fits) in
     let none : get_or bs (c.args.sender / 16) 0 ≡ 0 = c.if-self-group-ne0.false in
     let few : block_count bs < length bs = taken_lt bs (c.args.sender / 16) low none in
-    let long : length c.self.inside.links.items ≡ vec_len c.self.inside.links = omega (arith, c.self.inside.links.ok.0) in
+    let long : length c.self.inside.links.items
+    ≡ vec_len c.self.inside.links = omega (arith, c.self.inside.links.ok.0) in
     omega (arith, c.self.invariant.full, c.len.ensures)
 
 pub lengthen-requires : goal.lengthen-requires
@@ -31,7 +34,8 @@ lengthen-requires c =
     let low : c.args.sender / 16 < length bs = omega (arith, c.ranges.sender.fits) in
     let none : get_or bs (c.args.sender / 16) 0 ≡ 0 = c.if-self-group-ne0.false in
     let few : block_count bs < length bs = taken_lt bs (c.args.sender / 16) low none in
-    let long : length c.self.inside.links.items ≡ vec_len c.self.inside.links = omega (arith, c.self.inside.links.ok.0) in
+    let long : length c.self.inside.links.items
+    ≡ vec_len c.self.inside.links = omega (arith, c.self.inside.links.ok.0) in
     omega (arith, c.self.invariant.full, c.requires, ap (λ (e : EndsView). e.room) c.self.view_is)
 
 pub invariant_of-self : goal.invariant_of-self
@@ -41,9 +45,14 @@ invariant_of-self c =
     let low : c.args.sender / 16 < length bs = omega (arith, c.ranges.sender.fits) in
     let none : get_or bs (c.args.sender / 16) 0 ≡ 0 = c.if-self-group-ne0.false in
     let few : block_count bs < length bs = taken_lt bs (c.args.sender / 16) low none in
-    let long : length c.self.inside.links.items ≡ vec_len c.self.inside.links = omega (arith, c.self.inside.links.ok.0) in
-    let is : c.len.result / 16 + 1 ≡ suc (block_count bs) = omega (arith, c.self.invariant.full, c.len.ensures) in
-    subst (λ k. AreBlocks (set bs (c.args.sender / 16) k) c.lengthen.new.links.items) (sym is) (blocks_more bs c.self.inside.links.items c.lengthen.new.links.items (c.args.sender / 16) c.self.invariant low none (omega (arith, c.lengthen.ensures.len, c.lengthen.new.links.ok.0)))
+    let long : length c.self.inside.links.items
+    ≡ vec_len c.self.inside.links = omega (arith, c.self.inside.links.ok.0) in
+    let is : c.len.result / 16 + 1
+    ≡ suc (block_count bs) = omega (arith, c.self.invariant.full, c.len.ensures) in
+    subst (λ k. AreBlocks (set bs (c.args.sender / 16) k) c.lengthen.new.links.items) (sym is)
+    (blocks_more bs c.self.inside.links.items c.lengthen.new.links.items
+    (c.args.sender / 16) c.self.invariant low none
+    (omega (arith, c.lengthen.ensures.len, c.lengthen.new.links.ok.0)))
 
 pub returns-clause-same : goal.returns-clause-same
 returns-clause-same c =
@@ -52,7 +61,17 @@ returns-clause-same c =
     let low : c.args.sender / 16 < length bs = omega (arith, c.ranges.sender.fits) in
     let none : get_or bs (c.args.sender / 16) 0 ≡ 0 = c.if-self-group-ne0.false in
     let few : block_count bs < length bs = taken_lt bs (c.args.sender / 16) low none in
-    let long : length c.self.inside.links.items ≡ vec_len c.self.inside.links = omega (arith, c.self.inside.links.ok.0) in
-    let is : c.len.result / 16 + 1 ≡ suc (block_count bs) = omega (arith, c.self.invariant.full, c.len.ensures) in
-    λ other. ends_more (record { blocks = bs; links = c.self.inside.links.items; room = 0 }) (record { blocks = set bs (c.args.sender / 16) (c.len.result / 16 + 1); links = c.lengthen.new.links.items; room = 0 }) (c.args.sender / 16) c.self.invariant low none (ap (set bs (c.args.sender / 16)) is) c.lengthen.ensures.same other
+    let long : length c.self.inside.links.items
+    ≡ vec_len c.self.inside.links = omega (arith, c.self.inside.links.ok.0) in
+    let is : c.len.result / 16 + 1
+    ≡ suc (block_count bs) = omega (arith, c.self.invariant.full, c.len.ensures) in
+    λ other. ends_more (record { blocks = bs; links = c.self.inside.links.items; room = 0 })
+    (record {
+      blocks = set bs (c.args.sender / 16)
+          (c.len.result / 16 + 1);
+      links = c.lengthen.new.links.items;
+      room = 0;
+    })
+    (c.args.sender / 16) c.self.invariant low none
+    (ap (set bs (c.args.sender / 16)) is) c.lengthen.ensures.same other
     ∙ ap (λ (e : EndsView). link_of_sender e other) c.self.view_is

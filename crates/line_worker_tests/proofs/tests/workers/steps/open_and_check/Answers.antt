@@ -2,7 +2,11 @@ use Rattle.line_posts.proofs.SameLemmas.{generation_kept, lined_kept}
 use Rattle.line_worker_tests.proofs.tests.workers.steps.open_and_check.Goals as goal
 
 pub returns-clause-generation : goal.returns-clause-generation
-returns-clause-generation c = generation_kept c.in_ok-collector.posts.items c.send_two_and_check.new.posts.items c.in_ok-send_two_and_check.ensures c.in_ok-collector.ensures.generation.0
+returns-clause-generation c = generation_kept c.in_ok-collector.posts.items
+    c.send_two_and_check.new.posts.items c.in_ok-send_two_and_check.ensures
+    c.in_ok-collector.ensures.generation.0
 
 pub returns-clause-lines : goal.returns-clause-lines
-returns-clause-lines c = lined_kept c.in_ok-collector.collector c.in_ok-collector.posts.items c.send_two_and_check.new.posts.items c.in_ok-send_two_and_check.ensures c.in_ok-collector.ensures.generation.1
+returns-clause-lines c = lined_kept c.in_ok-collector.collector c.in_ok-collector.posts.items
+    c.send_two_and_check.new.posts.items c.in_ok-send_two_and_check.ensures
+    c.in_ok-collector.ensures.generation.1
