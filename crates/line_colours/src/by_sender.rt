@@ -84,6 +84,9 @@ impl BySender {
     }
 
     /// Those of one sender. It searches for them by halves.
+    // What lists the channels of a round asks each of them, and most hold nothing: a call here
+    // keeps the search out of its loop.
+    #[inline(never)]
     pub(crate) fn from(&self, p: ProcId) -> &[MsgName]
         ensures { result.now ≡ messages_from p self.now }
     {
