@@ -95,6 +95,19 @@ found_nowhere (marker ∷ rest) q none =
     ap (λ b. cond b marker (marker_of rest q)) (ne_eqb marker.me q (none 0 (omega arith)))
     ∙ found_nowhere rest q (λ k within. none (suc k) (omega (arith, within)))
 
+-- the marker of a process that stands at some place is the one that is found
+pub found_here : (markers : List MarkerView) (place q : ℕ) (marker : MarkerView)
+    → AreByProcess markers → place < length markers → marker ≡ get_or markers place marker
+    → marker.me ≡ q → marker_of markers q ≡ marker
+found_here markers place q marker ascend within is same =
+    let own : marker ≡ marker_at markers place =
+    is ∙ get_or_default markers place marker no_marker within in
+    let at : (marker_at markers place).me ≡ q = ap (λ (m : MarkerView). m.me) (sym own) ∙ same in
+    found_at markers place q within
+    (λ k below e. let less = ascend k place no_marker below within in
+    absurd (omega (arith, less, at, e))) at
+    ∙ sym own
+
 -- what a search finds at the place where those of the processes before end
 module _ (markers : List MarkerView) (to place : ℕ)
     (point : IsPartitionPoint (λ (marker : MarkerView). ltb marker.me to ≡ true)

@@ -108,9 +108,10 @@ impl Round {
     /// sender's marker; in a round of colours, what was sent before the sender's check and not
     /// received before the receiver's.
     ///
-    /// In a round of markers it searches by halves among the processes that something was on a
-    /// channel to. In a round of colours it costs what `SharedChannels::between` does: mostly
-    /// constant time, else two searches by halves.
+    /// In a round of markers it takes constant time for the receiver if something was on a channel
+    /// to each process up to this one, else it searches for it by halves. In a round of colours it
+    /// costs what `SharedChannels::between` does: mostly constant time, else two searches by
+    /// halves.
     pub fn channel(&self, from: ProcId, to: ProcId) -> &[MsgName]
         requires from { from < length self.now.checks }
         requires to { to < length self.now.checks }
@@ -119,7 +120,7 @@ impl Round {
     {
         match &self.counted {
             Some(channels) => channels.between(from, to),
-            None => recorded(&self.markers, self.number, from, to),
+            None => recorded_at(&self.markers, self.number, from, to),
         }
     }
 
@@ -235,7 +236,24 @@ impl Round {
 }
 
 /// What process `to` recorded of the channel from process `from` in a round; nothing if it is not
-/// among these. It searches for it by halves.
+/// among these. It looks first where that one stands if each process before is among them.
+fn recorded_at(markers: &[Recorder], round: u32, from: ProcId, to: ProcId) -> &[MsgName]
+    requires from { All (λ (marker : MarkerView). from < marker.n) markers.now }
+    requires ascend { AreByProcess markers.now }
+    ensures { result.now ≡ kept_channel markers.now round from to }
+{
+    if let Some(own) = markers.get(to.get() as usize) {
+        if own.me().get() == to.get() {
+            return own.names(from, round);
+        }
+    }
+    recorded(markers, round, from, to)
+}
+
+/// What `recorded_at` answers. It searches for the process by halves.
+// What lists the channels of a round asks each of them: a call here keeps the search out of its
+// loop.
+#[inline(never)]
 fn recorded(markers: &[Recorder], round: u32, from: ProcId, to: ProcId) -> &[MsgName]
     requires from { All (λ (marker : MarkerView). from < marker.n) markers.now }
     requires ascend { AreByProcess markers.now }

@@ -25,8 +25,8 @@ returns-in-Some c =
     ∙ ap kept (sym c.in-Some.is)
     ∙ ap (λ (v : ListedRound). channel_in v c.args.from c.args.to) c.self.view_is
 
-pub recorded-requires-clause-from : goal.recorded-requires-clause-from
-recorded-requires-clause-from c = λ k d within.
+pub recorded_at-requires-clause-from : goal.recorded_at-requires-clause-from
+recorded_at-requires-clause-from c = λ k d within.
     let markers : List MarkerView = c.self.inside.markers.items in
     let indices : List ℕ = c.self.inside.checks.items in
     let count : length indices ≡ length c.args.self.now.checks = ap
@@ -38,8 +38,8 @@ recorded-requires-clause-from c = λ k d within.
     subst (λ (ms : List MarkerView). All (λ (marker : MarkerView). c.args.from < marker.n) ms)
     (sym c.deref.ensures.value) all k d within
 
-pub recorded-requires-clause-ascend : goal.recorded-requires-clause-ascend
-recorded-requires-clause-ascend c =
+pub recorded_at-requires-clause-ascend : goal.recorded_at-requires-clause-ascend
+recorded_at-requires-clause-ascend c =
     let markers : List MarkerView = c.self.inside.markers.items in
     let indices : List ℕ = c.self.inside.checks.items in
     let are : AreChannels None (length indices) markers = subst (λ (o : Option (List (List
@@ -57,7 +57,7 @@ returns-in-None c =
     (λ (v : ListedRound). length v.checks) c.self.view_is in
     let kept : Option (List (List (List MsgName))) → List MsgName = λ o. get_or
     (get_or (channels_kept o (length indices) markers r) from []) to [] in
-    c.recorded.ensures ∙ ap
+    c.recorded_at.ensures ∙ ap
     (λ (ms : List MarkerView). kept_channel ms r from to) c.deref.ensures.value
     ∙ sym (table_cell (length indices) (kept_channel markers r) from to (omega
     (arith, c.requires.from, count)) (omega (arith, c.requires.to, count)) c.requires.other)
