@@ -26,7 +26,7 @@ use Rattle.line_world.specs.Machine.{Machine}
 use Rattle.line_world.specs.Refusals.{has_stranger, IsRefused}
 use Rattle.line_world.specs.Steps.{restarted_machine, IsPlan, Recovers}
 use Rattle.line_world.proofs.StepLemmas.{may_recover, Takes-refused}
-use Rattle.line_lives.specs.Lives.{whole_answer}
+use Rattle.line_live.specs.CutMachines.{whole_answer}
 use Rattle.line_live.specs.Lives.{LiveMachine}
 use Rattle.line_answers.specs.Answers.{CommandAnswer, Answered, Refused, Listing, Shown, Claimed}
 use Rattle.line_answers.specs.Answers.{Planned, Judged, Forgot, Saved, DoesCommand, DoesFront}

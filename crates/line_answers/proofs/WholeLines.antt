@@ -27,7 +27,7 @@ use Rattle.line_world.specs.declared.replies.Reply.TheVariants.{Sent, Took, Mark
 use Rattle.line_world.specs.declared.replies.Reply.TheVariants.{Checked, Begun, Turned, Damaged}
 use Rattle.line_world.specs.declared.replies.Reply.TheVariants.{Barred, Recovered}
 use Rattle.line_world.specs.declared.replies.StepError.{StepError}
-use Rattle.line_lives.specs.Lives.{cut_step, whole_answer}
+use Rattle.line_live.specs.CutMachines.{cut_step, whole_answer}
 use Rattle.line_live.specs.Lives.{IsPlanOfKept, LiveMachine, TakesUnless, floor_refusal}
 use Rattle.line_scripts.specs.declared.commands.Command.{Command}
 use Rattle.line_scripts.specs.declared.commands.Command.TheVariants as commands

@@ -5,7 +5,7 @@ use Rattle.line_answers.specs.Answers.{IsEverybody}
 use Rattle.line_cuts.specs.Cuts.{whole_line}
 use Rattle.line_cuts.proofs.LatestCuts.{length_history}
 use Rattle.line_fields.specs.Records.{Record}
-use Rattle.line_lives.specs.Lives.{whole_plan}
+use Rattle.line_live.specs.CutMachines.{whole_plan}
 use Rattle.line_tape.specs.History.{Process}
 use Rattle.line_collect.specs.AllAnswers.{AnswersAllOf, AnswersAsAll, AnswersLiveAll}
 use Rattle.line_collect.specs.AllAnswers.{IsAnsweredByAll}

@@ -11,7 +11,7 @@ use Rattle.line_collect.specs.Refusals.{is_stale, is_tape_full, refusal_of_repor
 use Rattle.line_cuts.specs.Cuts.{Floor, cut_history, cut_marks, whole_floor}
 use Rattle.line_cuts.specs.Floors.{HasNumbers}
 use Rattle.line_cuts.specs.Marks.{AreSameMarks}
-use Rattle.line_lives.specs.Lives.{whole_plan}
+use Rattle.line_live.specs.CutMachines.{whole_plan}
 use Rattle.line_plan.specs.declared.plans.Plan.{Plan}
 use Rattle.line_tape.specs.declared.limits.TheConstants.{MOST_EVENTS, MOST_STATE}
 use Rattle.line_tape.specs.Event.{checks}

@@ -39,10 +39,10 @@ use Rattle.line_cuts.specs.Marks.{AreSameMarks}
 use Rattle.line_cuts.proofs.FloorLemmas.{line_of_checks}
 use Rattle.line_live.proofs.LiveFloors.{all_checks}
 use Rattle.line_cuts.proofs.SameLemmas.{chain_same, latest_line_same, survives_same}
-use Rattle.line_lives.specs.Lives.{whole_plan}
-use Rattle.line_lives.proofs.ListLemmas.{map_same}
-use Rattle.line_lives.proofs.RestartCuts.{further_same, state_same}
-use Rattle.line_lives.proofs.TwoForgets.{machine_both}
+use Rattle.line_live.specs.CutMachines.{whole_plan}
+use Rattle.line_live.proofs.ListLemmas.{map_same}
+use Rattle.line_live.proofs.RestartCuts.{further_same, state_same}
+use Rattle.line_live.proofs.TwoForgets.{machine_both}
 use Rattle.line_moves.specs.Listed.{ListedRound}
 use Rattle.line_names.specs.declared.choices.Choice.{Choice}
 use Rattle.line_names.specs.declared.choices.Choice.TheVariants.{Check as AtCheck, Now}

@@ -1,7 +1,7 @@
 -- A plan of what is kept, brought back but for its line.
 use Rattle.std.proofs.Common.{◌≡◌, ℕ, Bool, List, sym, ap, ◌∙◌, subst, inl, inr}
 use Rattle.line_fields.specs.Texts.{records_text}
-use Rattle.line_lives.specs.Lives.{whole_plan}
+use Rattle.line_live.specs.CutMachines.{whole_plan}
 use Rattle.line_moves.proofs.LineFacts.{IsLine-latest}
 use Rattle.line_names.specs.declared.choices.Choice.{Choice}
 use Rattle.line_names.specs.declared.messages.MsgName.{MsgName}

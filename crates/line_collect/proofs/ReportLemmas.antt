@@ -36,7 +36,7 @@ use Rattle.line_cuts.proofs.SendCuts.{sends_left}
 use Rattle.line_cuts.proofs.StepCuts.{event_cut}
 use Rattle.line_cuts.proofs.SurvivalCuts.{checks_left}
 use Rattle.line_cuts.specs.Marks.{AreSameMarks}
-use Rattle.line_lives.proofs.EventLives.{survives_more}
+use Rattle.line_live.proofs.EventLives.{survives_more}
 use Rattle.line_moves.specs.Moves.{next_check}
 use Rattle.line_names.specs.declared.choices.Choice.TheVariants.{Check as AtCheck}
 use Rattle.line_names.specs.declared.limits.TheConstants.{MOST_BODY}

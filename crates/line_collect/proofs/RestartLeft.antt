@@ -26,8 +26,8 @@ use Rattle.line_cuts.proofs.FloorStays.{floor_restarted}
 use Rattle.line_cuts.proofs.LatestCuts.{length_whole, whole_at}
 use Rattle.line_cuts.proofs.StepCuts.{length_restarted}
 use Rattle.line_cuts.proofs.SurvivalCuts.{bar_cut, damaged_cut, undamaged}
-use Rattle.line_lives.proofs.ListLemmas.{same_list}
-use Rattle.line_lives.proofs.RestartCuts.{damage_kept, none_at, any_kept}
+use Rattle.line_live.proofs.ListLemmas.{same_list}
+use Rattle.line_live.proofs.RestartCuts.{damage_kept, none_at, any_kept}
 
 module _ (floor : Floor) (history : List Process) (marks : MarksView) (is : IsFloor history floor)
     (stays : FloorSurvives history marks floor) (size_marks : length marks.damaged ≡ length history)

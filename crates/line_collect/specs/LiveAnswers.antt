@@ -9,7 +9,7 @@ use Rattle.line_claims.specs.Records.{floors_records, in_order, version_of}
 use Rattle.line_cuts.specs.Cuts.{whole_choice}
 use Rattle.line_fields.specs.Records.{Record}
 use Rattle.line_live.specs.declared.refusals.ForgetError.{ForgetError}
-use Rattle.line_lives.specs.Lives.{whole_plan}
+use Rattle.line_live.specs.CutMachines.{whole_plan}
 use Rattle.line_moves.specs.Restarts.{restored_state}
 use Rattle.line_names.specs.declared.choices.Choice.{Choice}
 use Rattle.line_names.specs.Lines.{choice_at}

@@ -14,7 +14,7 @@ use Rattle.line_answers.specs.Answers.{IsEverybody}
 use Rattle.line_cuts.specs.Cuts.{Floor, FloorSurvives, IsFloor, cut_history, cut_marks, cut_name}
 use Rattle.line_cuts.specs.Cuts.{floor_check, is_left, lost_checks, lost_sends, whole_floor}
 use Rattle.line_cuts.specs.Cuts.{whole_name}
-use Rattle.line_lives.specs.Lives.{whole_plan}
+use Rattle.line_live.specs.CutMachines.{whole_plan}
 use Rattle.line_cuts.specs.Floors.{floor_of_line}
 use Rattle.line_cuts.specs.Floors.{first_floor, HasNumbers}
 use Rattle.line_live.specs.Lives.{IsSpentAt}

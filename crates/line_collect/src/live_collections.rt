@@ -8,7 +8,7 @@ ghost use Rattle.line_collect.specs.declared.reports.Report.TheVariants as repor
 ghost use Rattle.line_collect.specs.Lives.{ForgetsReports, IsForgetSpent, IsLivePlan, RecoversLive};
 ghost use Rattle.line_collect.specs.Lives.{TakesLiveReport, keeping, nothing_live};
 ghost use Rattle.line_cuts.specs.Cuts.{floor_check, lost_checks};
-ghost use Rattle.line_lives.specs.Lives.{whole_plan};
+ghost use Rattle.line_live.specs.CutMachines.{whole_plan};
 ghost use Rattle.line_tape.specs.Front.{HasChoice};
 ghost use Rattle.line_tape.specs.History.{tape_at};
 ghost use Rattle.line_tape.specs.Line.{IsConsistent, IsLine};

@@ -9,7 +9,7 @@ ghost use Rattle.line_cuts.specs.Cuts.{cut_name, floor_check, is_left, lost_chec
 ghost use Rattle.line_cuts.specs.Cuts.{whole_entry, whole_line, whole_name};
 ghost use Rattle.line_cuts.specs.Floors.{HasNumbers};
 ghost use Rattle.line_live.specs.Numbers.{IsFewChoice, mapped_in_place};
-ghost use Rattle.line_lives.specs.Lives.{whole_plan};
+ghost use Rattle.line_live.specs.CutMachines.{whole_plan};
 ghost use Rattle.line_names.specs.Lines.{choice_at};
 ghost use Rattle.line_tape.specs.declared.limits.TheConstants.{MOST_EVENTS};
 

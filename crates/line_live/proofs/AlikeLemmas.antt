@@ -47,11 +47,11 @@ use Rattle.line_world.specs.Refusals.{first_cause, is_stranger, refusal_of, IsLa
 use Rattle.line_world.specs.Refusals.{IsSpent}
 use Rattle.line_world.specs.Runs.{Takes}
 use Rattle.line_world.specs.Steps.{restarted_machine, IsPlan}
-use Rattle.line_lives.specs.Lives.{cut_listed, cut_machine, cut_step, is_listed_on, IsBeside}
-use Rattle.line_lives.specs.Lives.{SparesFloor}
-use Rattle.line_lives.proofs.LaterLives.{beside_later, further_later}
-use Rattle.line_lives.proofs.StepLives.{step_alike}
-use Rattle.line_lives.proofs.TwoForgets.{machine_both}
+use Rattle.line_live.specs.CutMachines.{cut_listed, cut_machine, cut_step, is_listed_on, IsBeside}
+use Rattle.line_live.specs.CutMachines.{SparesFloor}
+use Rattle.line_live.proofs.LaterLives.{beside_later, further_later}
+use Rattle.line_live.proofs.StepLives.{step_alike}
+use Rattle.line_live.proofs.TwoForgets.{machine_both}
 use Rattle.line_live.specs.Machines.{IsAnsweredAlike, IsAnsweredAsWhole, IsSameMachine}
 use Rattle.line_cuts.specs.Marks.{AreSameMarks}
 use Rattle.line_cuts.proofs.MarkedCuts.{damaged_left, length_damaged}

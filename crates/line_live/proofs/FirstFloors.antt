@@ -25,8 +25,8 @@ use Rattle.line_world.specs.Machine.{Machine}
 use Rattle.line_world.specs.Runs.{Takes}
 use Rattle.line_cuts.specs.Cuts.{Floor, floor_check, lost_checks, lost_sends, whole_choice}
 use Rattle.line_cuts.specs.Cuts.{whole_entry, whole_floor, whole_line, whole_name}
-use Rattle.line_lives.specs.Lives.{cut_step, whole_answer, whole_plan, whole_reply}
-use Rattle.line_lives.proofs.ListLemmas.{same_list}
+use Rattle.line_live.specs.CutMachines.{cut_step, whole_answer, whole_plan, whole_reply}
+use Rattle.line_live.proofs.ListLemmas.{same_list}
 use Rattle.line_live.specs.Lived.{LetsNothingGo}
 use Rattle.line_live.specs.Lives.{floor_refusal, IsAnsweredByKept, LiveMachine, TakesLive}
 use Rattle.line_live.specs.Lives.{TakesUnless}

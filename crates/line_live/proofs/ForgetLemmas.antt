@@ -19,7 +19,7 @@ use Rattle.line_steps.specs.declared.modes.Mode.TheVariants.{Fifo, Unordered}
 use Rattle.line_world.specs.Machine.{Machine, is_open}
 use Rattle.line_world.specs.Sound.{IsSound}
 use Rattle.line_cuts.specs.Cuts.{Floor, FloorSurvives}
-use Rattle.line_lives.specs.Lives.{MayForget}
+use Rattle.line_live.specs.CutMachines.{MayForget}
 use Rattle.line_live.specs.declared.refusals.ForgetError.{ForgetError}
 use Rattle.line_cuts.specs.Floors.{check_index_of, floor_of_line, IsOfChecks}
 use Rattle.line_live.specs.Forgets.{forget_refusal, idle_refusal, is_safe, listed_of, round_refusal}

@@ -51,9 +51,9 @@ use Rattle.line_cuts.proofs.FloorStays.{floor_event, floor_restarted}
 use Rattle.line_cuts.proofs.LatestCuts.{floor_recoverable, length_cut, recoverable_cut, same_line}
 use Rattle.line_cuts.proofs.SameLemmas.{survives_same}
 use Rattle.line_cuts.proofs.SurvivalCuts.{undamaged}
-use Rattle.line_lives.specs.Lives.{cut_step, SparesFloor}
-use Rattle.line_lives.proofs.EventLives.{survives_more}
-use Rattle.line_lives.proofs.RestartCuts.{any_kept, none_at}
+use Rattle.line_live.specs.CutMachines.{cut_step, SparesFloor}
+use Rattle.line_live.proofs.EventLives.{survives_more}
+use Rattle.line_live.proofs.RestartCuts.{any_kept, none_at}
 use Rattle.line_live.specs.Lived.{LetsNothingGo}
 use Rattle.line_live.specs.Lives.{floor_refusal}
 use Rattle.line_live.specs.Resumed.{kept_floor, HasFloor}

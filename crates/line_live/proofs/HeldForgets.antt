@@ -19,7 +19,7 @@ use Rattle.line_world.specs.Machine.{Machine}
 use Rattle.line_cuts.specs.Cuts.{Floor, floor_check, floor_line, lost_checks}
 use Rattle.line_cuts.proofs.ConsistentCuts.{floor_at}
 use Rattle.line_cuts.proofs.FloorLemmas.{line_of_checks}
-use Rattle.line_lives.specs.Lives.{cut_listed, is_listed_on}
+use Rattle.line_live.specs.CutMachines.{cut_listed, is_listed_on}
 use Rattle.line_live.specs.Forgets.{IsFloorOfRound, IsFloorWhereAllFail}
 use Rattle.line_live.specs.Numbers.{IsTallied}
 use Rattle.line_live.specs.Resumed.{kept_floor, AreChecks}

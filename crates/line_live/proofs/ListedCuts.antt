@@ -18,8 +18,8 @@ use Rattle.line_colours.specs.Tables.{between, IsTable}
 use Rattle.line_colours.proofs.TableLemmas.{between-of, table_of-all, IsTable-of}
 use Rattle.line_moves.specs.Listed.{ListedRound, channel_in, channel_table, IsSnapshotOf}
 use Rattle.line_cuts.specs.Cuts.{Floor, IsFloor, cut_history, cut_name}
-use Rattle.line_lives.specs.Lives.{cut_listed, is_listed_on}
-use Rattle.line_lives.proofs.LaterLives.{channel_cut, snapshot_left}
+use Rattle.line_live.specs.CutMachines.{cut_listed, is_listed_on}
+use Rattle.line_live.proofs.LaterLives.{channel_cut, snapshot_left}
 
 -- two rounds of the same parts
 pub same_round : (a b : ListedRound) → a.number ≡ b.number → a.checks ≡ b.checks

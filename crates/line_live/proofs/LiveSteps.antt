@@ -21,7 +21,7 @@ use Rattle.line_world.specs.Machine.{Machine, start}
 use Rattle.line_world.specs.Runs.{Takes}
 use Rattle.line_cuts.specs.Cuts.{Floor, floor_check}
 use Rattle.line_cuts.specs.Floors.{first_floor, HasNumbers}
-use Rattle.line_lives.specs.Lives.{cut_step, whole_answer}
+use Rattle.line_live.specs.CutMachines.{cut_step, whole_answer}
 use Rattle.line_live.specs.Lived.{LetsNothingGo}
 use Rattle.line_live.specs.Lives.{floor_refusal, LiveMachine, TakesLive, TakesUnless}
 use Rattle.line_live.specs.Numbers.{IsTallied}

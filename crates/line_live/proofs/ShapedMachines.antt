@@ -46,7 +46,7 @@ use Rattle.line_world.specs.declared.replies.StepError.TheVariants.{NoMoreIncarn
 use Rattle.line_world.specs.Machine.{Machine, start, with_step}
 use Rattle.line_world.specs.Runs.{Takes}
 use Rattle.line_world.specs.Steps.{restarted_machine, Does, RecoversWith}
-use Rattle.line_lives.specs.Lives.{TakesWithRoom}
+use Rattle.line_live.specs.CutMachines.{TakesWithRoom}
 use Rattle.line_live.specs.Resumed.{AreChecks}
 
 -- a listed round has a check of each of n processes, and none is an initial state

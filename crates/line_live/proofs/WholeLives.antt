@@ -36,11 +36,11 @@ use Rattle.line_cuts.specs.Cuts.{Floor, FloorSurvives, IsFloor, cut_history, cut
 use Rattle.line_cuts.specs.Cuts.{floor_line, lost_checks, whole_floor}
 use Rattle.line_cuts.proofs.LaterFloors.{later_stays}
 use Rattle.line_cuts.proofs.LatestCuts.{length_history}
-use Rattle.line_lives.specs.Lives.{cut_listed, cut_machine, cut_step, is_listed_on, whole_answer}
-use Rattle.line_lives.specs.Lives.{IsBeside, IsFurther, MayForget, RunsWithRoom, SparesFloor}
-use Rattle.line_lives.specs.Lives.{TakesWithRoom}
-use Rattle.line_lives.proofs.BeginLives.{begins_beside}
-use Rattle.line_lives.proofs.TwoForgets.{machine_both}
+use Rattle.line_live.specs.CutMachines.{cut_listed, cut_machine, cut_step, is_listed_on, whole_answer}
+use Rattle.line_live.specs.CutMachines.{IsBeside, IsFurther, MayForget, RunsWithRoom, SparesFloor}
+use Rattle.line_live.specs.CutMachines.{TakesWithRoom}
+use Rattle.line_live.proofs.BeginLives.{begins_beside}
+use Rattle.line_live.proofs.TwoForgets.{machine_both}
 use Rattle.line_cuts.specs.Floors.{first_floor, floor_of_line, settled_sends}
 use Rattle.line_live.specs.Forgets.{listed_of, round_refusal, IsFloorOfRound, IsFloorWhereAllFail}
 use Rattle.line_live.specs.Lived.{answer_told, step_asked, IsLeftOf, IsLife, IsLifeOfWhole}

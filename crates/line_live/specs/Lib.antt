@@ -1,3 +1,4 @@
+pub mod CutMachines
 pub mod Machines
 pub mod Forgets
 pub mod Lives

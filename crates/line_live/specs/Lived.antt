@@ -8,7 +8,7 @@ use Rattle.line_world.specs.declared.replies.Answer.TheVariants.{Refused}
 use Rattle.line_world.specs.declared.replies.StepError.{StepError}
 use Rattle.line_world.specs.Machine.{Machine, start}
 use Rattle.line_cuts.specs.Cuts.{Floor, floor_check, lost_sends}
-use Rattle.line_lives.specs.Lives.{cut_machine, IsBeside, RunsWithRoom, TakesWithRoom}
+use Rattle.line_live.specs.CutMachines.{cut_machine, IsBeside, RunsWithRoom, TakesWithRoom}
 use Rattle.line_live.specs.Lives.{floor_refusal, ForgetsLive, ForgetsRound}
 use Rattle.line_live.specs.Lives.{IsAnsweredByKept, LiveMachine}
 use Rattle.line_live.specs.Machines.{IsSameMachine}

@@ -16,7 +16,7 @@ use Rattle.line_world.specs.Runs.{Takes}
 use Rattle.line_world.specs.Steps.{IsPlan}
 use Rattle.line_cuts.specs.Cuts.{Floor, floor_check, whole_floor}
 use Rattle.line_cuts.specs.Floors.{first_floor, HasNumbers, LacksNumbers}
-use Rattle.line_lives.specs.Lives.{cut_machine, cut_step, whole_answer, whole_plan}
+use Rattle.line_live.specs.CutMachines.{cut_machine, cut_step, whole_answer, whole_plan}
 use Rattle.line_live.specs.declared.refusals.ForgetError.{ForgetError}
 use Rattle.line_live.specs.declared.refusals.ForgetError.TheVariants.{NoMoreNumbers}
 use Rattle.line_live.specs.Forgets.{forget_refusal, idle_refusal}

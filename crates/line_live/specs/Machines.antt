@@ -5,7 +5,7 @@ use Rattle.line_world.specs.declared.replies.Answer.{Answer}
 use Rattle.line_world.specs.Machine.{Machine}
 use Rattle.line_world.specs.Runs.{Takes}
 use Rattle.line_cuts.specs.Cuts.{Floor}
-use Rattle.line_lives.specs.Lives.{cut_machine, whole_answer, IsBeside, TakesWithRoom}
+use Rattle.line_live.specs.CutMachines.{cut_machine, whole_answer, IsBeside, TakesWithRoom}
 use Rattle.line_cuts.specs.Marks.{AreSameMarks}
 
 -- they are the same but for that order

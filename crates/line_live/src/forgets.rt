@@ -6,7 +6,7 @@ ghost use Rattle.line_tape.specs.Rounds.{check_line};
 ghost use Rattle.line_moves.specs.Listed.{ListedRound, IsSnapshotOf};
 ghost use Rattle.line_cuts.specs.Cuts.{IsFloor};
 ghost use Rattle.line_cuts.specs.Floors.{floor_of_line};
-ghost use Rattle.line_lives.specs.Lives.{cut_machine};
+ghost use Rattle.line_live.specs.CutMachines.{cut_machine};
 ghost use Rattle.line_live.specs.Forgets.{forget_refusal, is_safe, listed_of, IsFloorAt};
 ghost use Rattle.line_live.specs.Forgets.{IsFloorOfRound};
 ghost use Rattle.line_live.specs.Machines.{IsSameMachine};

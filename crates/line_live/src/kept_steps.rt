@@ -7,7 +7,7 @@ ghost use Rattle.line_world.specs.declared.replies.Answer.TheVariants.{Done, Ref
 ghost use Rattle.line_world.specs.Refusals.{refusal_of};
 ghost use Rattle.line_cuts.specs.Cuts.{lost_checks};
 ghost use Rattle.line_cuts.specs.Floors.{HasNumbers};
-ghost use Rattle.line_lives.specs.Lives.{cut_step};
+ghost use Rattle.line_live.specs.CutMachines.{cut_step};
 ghost use Rattle.line_live.specs.Lives.{floor_refusal, TakesLive};
 
 use crate::whole_names::whole_reply;

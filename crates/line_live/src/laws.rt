@@ -7,7 +7,7 @@ ghost use Rattle.line_world.specs.declared.replies.Answer.{Answer};
 ghost use Rattle.line_world.specs.Machine.{Machine, is_open};
 ghost use Rattle.line_world.specs.Runs.{Takes};
 ghost use Rattle.line_world.specs.Sound.{IsSound};
-ghost use Rattle.line_lives.specs.Lives.{cut_machine, cut_step, IsBeside, MayForget, SparesFloor};
+ghost use Rattle.line_live.specs.CutMachines.{cut_machine, cut_step, IsBeside, MayForget, SparesFloor};
 ghost use Rattle.line_live.specs.Forgets.{forget_refusal, idle_refusal, IsFloorOfRound};
 ghost use Rattle.line_live.specs.Forgets.{IsFloorWhereAllFail};
 ghost use Rattle.line_live.specs.Machines.{IsAnsweredAlike, IsAnsweredAsWhole, IsSameMachine};
@@ -62,7 +62,7 @@ pub fn kept_machines_let_go_further()
 {}
 
 /// Where nothing refuses a floor, a machine whose rounds are as every run leaves them may let go
-/// what stands before the one that is found: so `lives_begin` of `line_lives` holds of it.
+/// what stands before the one that is found: so `lives_begin` holds of it.
 ///
 /// The call does nothing: its contract is the law.
 pub fn found_floors_may_be_taken()

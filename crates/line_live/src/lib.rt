@@ -10,6 +10,7 @@ mod life_laws;
 mod listed;
 mod live_floors;
 mod lives;
+mod machine_laws;
 mod refusals;
 mod resumed;
 mod whole_names;
@@ -27,6 +28,10 @@ pub use line_cuts::{
 };
 pub use live_floors::forget_live;
 pub use lives::Live;
+pub use machine_laws::{
+    forgets_as_one, lives_as_whole, lives_begin, lives_go_further, lives_go_on, lives_stay_sound,
+    runs_as_whole,
+};
 pub use refusals::{ForgetError, ResumeError};
 pub use resumed::RoundChecks;
 pub use worlds::cut_world;

@@ -5,7 +5,7 @@ ghost use Rattle.line_names.specs.declared.limits.TheConstants.{MOST_PROCESSES};
 ghost use Rattle.line_tape.specs.Rounds.{check_line};
 ghost use Rattle.line_cuts.specs.Cuts.{lost_checks};
 ghost use Rattle.line_moves.specs.Listed.{ListedRound, check_in, IsSnapshotOf};
-ghost use Rattle.line_lives.specs.Lives.{cut_listed, is_listed_on};
+ghost use Rattle.line_live.specs.CutMachines.{cut_listed, is_listed_on};
 
 use line_catalogue::Catalogue;
 use line_colours::{Channels, SharedChannels};

@@ -4,7 +4,7 @@ ghost use Rattle.std.specs.Prelude.{None, Some, true};
 ghost use Rattle.line_names.specs.declared.limits.TheConstants.{MOST_PROCESSES};
 ghost use Rattle.line_names.specs.Sets.{is_member};
 ghost use Rattle.line_world.specs.Machine.{is_open};
-ghost use Rattle.line_lives.specs.Lives.{cut_machine};
+ghost use Rattle.line_live.specs.CutMachines.{cut_machine};
 ghost use Rattle.line_live.specs.Forgets.{idle_refusal, IsFloorWhereAllFail};
 ghost use Rattle.line_live.specs.Machines.{IsSameMachine};
 

@@ -9,7 +9,7 @@ ghost use Rattle.line_world.specs.Refusals.{has_stranger, refusal_of};
 ghost use Rattle.line_world.specs.Steps.{IsPlan};
 ghost use Rattle.line_cuts.specs.Cuts.{floor_check, whole_floor, FloorSurvives, IsFloor};
 ghost use Rattle.line_cuts.specs.Floors.{HasNumbers, LacksNumbers};
-ghost use Rattle.line_lives.specs.Lives.{cut_step, whole_plan};
+ghost use Rattle.line_live.specs.CutMachines.{cut_step, whole_plan};
 ghost use Rattle.line_live.specs.Forgets.{forget_refusal, idle_refusal};
 ghost use Rattle.line_live.specs.Lives.{floor_refusal, start_live, ForgetsLive, ForgetsRound};
 ghost use Rattle.line_live.specs.Lived.{LetsNothingGo};

@@ -6,7 +6,7 @@ ghost use Rattle.line_tape.specs.declared.limits.TheConstants.{MOST_EVENTS};
 ghost use Rattle.line_cuts.specs.Cuts.{lost_checks, whole_choice, whole_entry, whole_line};
 ghost use Rattle.line_cuts.specs.Cuts.{whole_name};
 ghost use Rattle.line_cuts.specs.Floors.{HasNumbers};
-ghost use Rattle.line_lives.specs.Lives.{whole_plan, whole_reply};
+ghost use Rattle.line_live.specs.CutMachines.{whole_plan, whole_reply};
 ghost use Rattle.line_live.specs.Numbers.{mapped_in_place, IsFewChoice, IsFewEntry, IsFewName};
 ghost use Rattle.line_live.specs.Numbers.{IsFewPlan, IsFewReply};
 

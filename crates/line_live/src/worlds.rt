@@ -2,7 +2,7 @@
 ghost use Rattle.std.specs.Prelude.{◌≡◌, IfOk};
 ghost use Rattle.line_steps.specs.declared.modes.Mode.TheVariants.{Fifo};
 ghost use Rattle.line_cuts.specs.Cuts.{IsFloor};
-ghost use Rattle.line_lives.specs.Lives.{cut_machine};
+ghost use Rattle.line_live.specs.CutMachines.{cut_machine};
 ghost use Rattle.line_live.specs.Machines.{IsSameMachine};
 
 use crate::listed::cut_listing;

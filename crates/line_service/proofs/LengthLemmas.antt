@@ -6,7 +6,7 @@ use Rattle.std.proofs.Math.ListN.{length-set}
 use Rattle.line_answers.specs.Answers.{CommandAnswer, Answered, Refused, Listing, Shown, Claimed}
 use Rattle.line_answers.specs.Answers.{Planned, Judged, Forgot, Saved, Forgets, Tells}
 use Rattle.line_cuts.specs.Cuts.{Floor, cut_tape}
-use Rattle.line_lives.specs.Lives.{cut_step}
+use Rattle.line_live.specs.CutMachines.{cut_step}
 use Rattle.line_live.specs.Lives.{LetsGo, LiveMachine, TakesUnless, floor_refusal}
 use Rattle.line_moves.specs.Fates.{events_taken}
 use Rattle.line_moves.specs.Moves.{with_events}

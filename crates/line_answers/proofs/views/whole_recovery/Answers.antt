@@ -1,7 +1,7 @@
 -- What is kept may answer so, and a plan of it is brought back.
 use Rattle.std.proofs.Common.{◌≡◌, ◌∙◌, ap, subst}
 use Rattle.std.proofs.lemmas.Result.{err_from_is_err_and}
-use Rattle.line_lives.specs.Lives.{whole_plan}
+use Rattle.line_live.specs.CutMachines.{whole_plan}
 use Rattle.line_steps.specs.declared.steps.Step.TheVariants.{Recover}
 use Rattle.line_world.specs.declared.replies.Answer.{Answer}
 use Rattle.line_world.specs.declared.replies.Answer.TheVariants as answers

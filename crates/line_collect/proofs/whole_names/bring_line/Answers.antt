@@ -7,7 +7,7 @@ use Rattle.line_names.specs.declared.choices.Choice.TheVariants.{Check as AtChec
 use Rattle.line_names.specs.Lines.{choice_at}
 use Rattle.line_cuts.specs.Cuts.{Floor, whole_choice, whole_line}
 use Rattle.line_cuts.proofs.LatestCuts.{length_whole, whole_at}
-use Rattle.line_lives.proofs.ListLemmas.{same_list}
+use Rattle.line_live.proofs.ListLemmas.{same_list}
 use Rattle.line_live.specs.Numbers.{IsFewChoice}
 use Rattle.line_collect.proofs.whole_names.bring_line.Goals as goal
 

@@ -8,7 +8,7 @@ use Rattle.line_world.specs.declared.replies.Reply.{Reply}
 use Rattle.line_world.specs.Machine.{Machine}
 use Rattle.line_world.specs.Runs.{Takes}
 use Rattle.line_cuts.specs.Cuts.{Floor}
-use Rattle.line_lives.specs.Lives.{cut_step}
+use Rattle.line_live.specs.CutMachines.{cut_step}
 use Rattle.line_live.specs.Lives.{TakesLive}
 use Rattle.line_live.proofs.FewNumbers.{reply_few}
 use Rattle.line_live.proofs.LiveSteps.{living, takes_cut}

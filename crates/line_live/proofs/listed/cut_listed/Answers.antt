@@ -11,7 +11,7 @@ use Rattle.line_colours.specs.Channels.{channels_at}
 use Rattle.line_colours.specs.Tables.{between}
 use Rattle.line_cuts.specs.Cuts.{Floor, lost_checks}
 use Rattle.line_moves.specs.Listed.{ListedRound, channel_table, check_in}
-use Rattle.line_lives.specs.Lives.{cut_listed}
+use Rattle.line_live.specs.CutMachines.{cut_listed}
 use Rattle.line_live.proofs.ListedCuts.{channels_left, same_round}
 use Rattle.line_live.proofs.listed.cut_listed.Goals as goal
 

@@ -1,6 +1,6 @@
 use Rattle.std.proofs.Common.{◌≡◌, map, take}
 use Rattle.std.specs.List.{filter}
-use Rattle.line_lives.specs.Lives.{cut_listed, is_listed_on}
+use Rattle.line_live.specs.CutMachines.{cut_listed, is_listed_on}
 use Rattle.line_live.proofs.listed.cut_listing.Given as goal
 
 abbrev pub invariant-loop-round : goal.invariant-loop-round

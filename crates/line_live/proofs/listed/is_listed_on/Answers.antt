@@ -6,7 +6,7 @@ use Rattle.line_cuts.specs.Cuts.{floor_check}
 use Rattle.line_laws.proofs.CompletionLemmas.{all_range}
 use Rattle.line_laws.proofs.RoundLines.{in_range}
 use Rattle.line_moves.specs.Listed.{check_in}
-use Rattle.line_lives.specs.Lives.{is_listed_on}
+use Rattle.line_live.specs.CutMachines.{is_listed_on}
 use Rattle.line_live.proofs.listed.is_listed_on.Goals as goal
 
 pub each-preserved : goal.each-preserved

@@ -3,7 +3,7 @@ use Rattle.std.proofs.Common.{◌≡◌, sym, ap, ◌∙◌}
 use Rattle.line_plan.specs.declared.plans.Plan.{Plan}
 use Rattle.line_world.specs.declared.replies.Reply.TheVariants.{Recovered}
 use Rattle.line_cuts.specs.Cuts.{Floor}
-use Rattle.line_lives.specs.Lives.{whole_plan, whole_reply}
+use Rattle.line_live.specs.CutMachines.{whole_plan, whole_reply}
 use Rattle.line_live.proofs.whole_names.whole_reply.Goals as goal
 
 pub returns-in-Recovered : goal.returns-in-Recovered

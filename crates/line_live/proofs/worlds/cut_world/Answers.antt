@@ -16,8 +16,8 @@ use Rattle.line_moves.specs.Worlds.{AreNumbered}
 use Rattle.line_world.proofs.IdleLemmas.{idle_unbegun}
 use Rattle.line_cuts.specs.Cuts.{Floor, cut_history}
 use Rattle.line_cuts.proofs.LatestCuts.{length_history}
-use Rattle.line_lives.specs.Lives.{cut_listed, is_listed_on}
-use Rattle.line_lives.proofs.LaterLives.{fit_left, numbered_left, snapshots_left, unbegun_left}
+use Rattle.line_live.specs.CutMachines.{cut_listed, is_listed_on}
+use Rattle.line_live.proofs.LaterLives.{fit_left, numbered_left, snapshots_left, unbegun_left}
 use Rattle.line_live.proofs.ListedCuts.{counts_are, left_each}
 use Rattle.line_live.proofs.worlds.cut_world.Goals as goal
 

@@ -2,7 +2,7 @@
 use Rattle.std.proofs.Common.{◌≡◌, subst, sym}
 use Rattle.line_collect.specs.Collections.{IsPlanToGoBack}
 use Rattle.line_collect.specs.Lives.{LiveCollectionView}
-use Rattle.line_lives.specs.Lives.{whole_plan}
+use Rattle.line_live.specs.CutMachines.{whole_plan}
 use Rattle.line_collect.proofs.ToldPlans.{plan_told}
 use Rattle.line_tape.specs.History.{IsHistory}
 use Rattle.line_collect.proofs.live_collections.LiveCollection.bring_names_back.Goals as goal

@@ -10,7 +10,7 @@ use Rattle.line_moves.specs.Modes.{IsFitIn}
 use Rattle.line_world.specs.Machine.{Machine}
 use Rattle.line_world.specs.Steps.{IsPlan}
 use Rattle.line_cuts.specs.Cuts.{Floor}
-use Rattle.line_lives.specs.Lives.{whole_plan}
+use Rattle.line_live.specs.CutMachines.{whole_plan}
 use Rattle.line_live.specs.Lives.{IsPlanOfKept, LiveMachine}
 use Rattle.line_live.proofs.FewNumbers.{plan_few}
 use Rattle.line_live.proofs.FirstFloors.{plan_none}
