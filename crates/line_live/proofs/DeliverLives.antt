@@ -46,7 +46,8 @@ use Rattle.line_cuts.specs.Cuts.{Floor, lost_sends, is_left, cut_name, cut_histo
 use Rattle.line_cuts.specs.Cuts.{whole_name}
 use Rattle.line_cuts.proofs.LinkCuts.{link_cut}
 use Rattle.line_cuts.proofs.RoundCuts.{checked_cut}
-use Rattle.line_live.specs.CutMachines.{cut_machine, whole_reply, AnswersAlike, IsBeside, IsItemLeft}
+use Rattle.line_live.specs.CutMachines.{cut_machine, whole_reply, AnswersAlike, IsBeside}
+use Rattle.line_live.specs.CutMachines.{IsItemLeft}
 use Rattle.line_live.proofs.CauseLemmas.{passes, refused_alike, room_cases}
 use Rattle.line_live.proofs.CheckLives.{check_on}
 use Rattle.line_live.proofs.EventLives.{made, nothing_put, stranger_same, fuller, step_same}

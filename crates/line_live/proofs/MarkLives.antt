@@ -34,7 +34,8 @@ use Rattle.line_world.specs.Runs.{Takes}
 use Rattle.line_cuts.specs.Cuts.{Floor, floor_check, lost_checks, cut_bar, cut_history, cut_marks}
 use Rattle.line_cuts.proofs.ConsistentCuts.{tape_cut, floor_at}
 use Rattle.line_cuts.proofs.SurvivalCuts.{bar_cut, checks_left, damaged_cut, marked_left}
-use Rattle.line_live.specs.CutMachines.{cut_listed, cut_machine, is_listed_on, whole_reply, AnswersAlike}
+use Rattle.line_live.specs.CutMachines.{cut_listed, cut_machine, is_listed_on, whole_reply}
+use Rattle.line_live.specs.CutMachines.{AnswersAlike}
 use Rattle.line_live.specs.CutMachines.{IsBeside}
 use Rattle.line_live.proofs.CauseLemmas.{passes}
 use Rattle.line_live.proofs.EventLives.{made, stranger_same}

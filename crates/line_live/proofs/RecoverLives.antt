@@ -67,7 +67,8 @@ use Rattle.line_cuts.proofs.LatestCuts.{length_history, length_whole, whole_at}
 use Rattle.line_cuts.proofs.StepCuts.{length_restarted, process_cut, restart_cut}
 use Rattle.line_cuts.proofs.SurvivalCuts.{bar_cut, damaged_cut, undamaged}
 use Rattle.line_cuts.proofs.TransitCuts.{transit_cut}
-use Rattle.line_live.specs.CutMachines.{cut_listed, cut_machine, is_listed_on, whole_plan, AnswersAlike}
+use Rattle.line_live.specs.CutMachines.{cut_listed, cut_machine, is_listed_on, whole_plan}
+use Rattle.line_live.specs.CutMachines.{AnswersAlike}
 use Rattle.line_live.specs.CutMachines.{IsBeside, IsItemLeft}
 use Rattle.line_live.proofs.EventLives.{made}
 use Rattle.line_live.proofs.ListLemmas.{any_none, map_same, same_list}

@@ -36,7 +36,8 @@ use Rattle.line_cuts.specs.Cuts.{Floor, FloorSurvives, IsFloor, cut_history, cut
 use Rattle.line_cuts.specs.Cuts.{floor_line, lost_checks, whole_floor}
 use Rattle.line_cuts.proofs.LaterFloors.{later_stays}
 use Rattle.line_cuts.proofs.LatestCuts.{length_history}
-use Rattle.line_live.specs.CutMachines.{cut_listed, cut_machine, cut_step, is_listed_on, whole_answer}
+use Rattle.line_live.specs.CutMachines.{cut_listed, cut_machine, cut_step, is_listed_on}
+use Rattle.line_live.specs.CutMachines.{whole_answer}
 use Rattle.line_live.specs.CutMachines.{IsBeside, IsFurther, MayForget, RunsWithRoom, SparesFloor}
 use Rattle.line_live.specs.CutMachines.{TakesWithRoom}
 use Rattle.line_live.proofs.BeginLives.{begins_beside}
