@@ -33,5 +33,5 @@ pub use moves::{add_check, add_receipt, put_message, take_copy, take_message};
 pub use openings::{OpenRound, is_forced, list_completed};
 pub use restarts::{restart_copies, restart_links};
 pub use restores::{restarted_incarnations, restored_states};
-pub use round_moves::{begin_round, take_marker, turn_round};
+pub use round_moves::{ArrivedMarker, TurnCheck, begin_round, take_marker, turn_round};
 pub use rounds::Round;

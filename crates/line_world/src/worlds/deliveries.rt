@@ -22,7 +22,8 @@ use crate::protocols::Protocol;
 use crate::replies::{Delivered, Reply, StepError};
 use line_colours::ReceivedSends;
 use line_moves::{
-    Fate, add_receipt, is_forced, list_completed, take_copy, take_marker, take_message, turn_round,
+    ArrivedMarker, Fate, TurnCheck, add_receipt, is_forced, list_completed, take_copy, take_marker,
+    take_message, turn_round,
 };
 use line_names::{Choice, MsgName, ProcId};
 use line_tape::{History, Item};
@@ -178,16 +179,19 @@ impl World {
                 if lacks_room(self.catalogue.history(), place.to, 2) {
                     return Err(StepError::TapeFull);
                 }
+                let turn = TurnCheck {
+                    at: place.to,
+                    round: self.last_round,
+                    state,
+                    further: 1,
+                };
                 turn_round(
                     alloc,
                     &mut self.catalogue,
                     colours,
                     turning,
                     &mut self.rounds,
-                    place.to,
-                    state,
-                    self.last_round,
-                    1,
+                    &turn,
                 )?;
                 add_receipt(&mut self.catalogue, place.to, message);
                 received.receive(message);
@@ -276,16 +280,19 @@ impl World {
                     return Err(StepError::TapeFull);
                 }
                 self.rounds.reserve()?;
+                let marker = ArrivedMarker {
+                    from: place.from,
+                    to: place.to,
+                    round,
+                    forced,
+                };
                 take_marker(
                     alloc,
                     &mut self.catalogue,
                     &mut self.links,
                     running,
-                    place.from,
-                    place.to,
-                    round,
+                    &marker,
                     state,
-                    forced,
                 )?;
                 let history = self.catalogue.history();
                 list_completed(alloc, running, history, &mut self.rounds);

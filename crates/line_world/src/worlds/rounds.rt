@@ -10,7 +10,7 @@ use super::World;
 use crate::protocols::Protocol;
 use crate::replies::{Reply, StepError};
 use line_colours::Turning;
-use line_moves::{begin_round, list_completed, turn_round};
+use line_moves::{TurnCheck, begin_round, list_completed, turn_round};
 use line_names::ProcId;
 use std::alloc::Global;
 
@@ -72,16 +72,19 @@ impl World {
                 let n = self.catalogue.n();
                 let round = self.last_round + 1;
                 let mut begun = Some(Turning::new(alloc, n, round)?);
+                let turn = TurnCheck {
+                    at,
+                    round,
+                    state,
+                    further: 0,
+                };
                 let check = turn_round(
                     alloc,
                     &mut self.catalogue,
                     colours,
                     &mut begun,
                     &mut self.rounds,
-                    at,
-                    state,
-                    round,
-                    0,
+                    &turn,
                 )?;
                 self.last_round = round;
                 *turning = begun;
@@ -141,16 +144,19 @@ impl World {
                 colours,
                 ..
             } => {
+                let turn = TurnCheck {
+                    at,
+                    round: self.last_round,
+                    state,
+                    further: 0,
+                };
                 let check = turn_round(
                     alloc,
                     &mut self.catalogue,
                     colours,
                     turning,
                     &mut self.rounds,
-                    at,
-                    state,
-                    self.last_round,
-                    0,
+                    &turn,
                 )?;
                 Ok(Reply::Turned {
                     at,

@@ -18,7 +18,7 @@ use Rattle.line_moves.proofs.round_moves.force_round.Goals as goal
 
 pub append-requires-clause-agrees : goal.append-requires-clause-agrees
 append-requires-clause-agrees c =
-    AgreesNext-check c.reserve.new.self.processes c.history.ensures.agrees c.args.to
+    AgreesNext-check c.reserve.new.self.processes c.history.ensures.agrees c.args.marker.now.to
     (omega (
       arith,
       c.requires.to,
@@ -30,7 +30,7 @@ pub append_mark-requires-clause-agrees : goal.append_mark-requires-clause-agrees
 append_mark-requires-clause-agrees c =
     let old : List Process = c.reserve.new.self.processes in
     let e : Event = Check c.of-state.result (Some c.number-number.result) in
-    let within : c.args.to < length old = omega (
+    let within : c.args.marker.now.to < length old = omega (
       arith,
       c.requires.to,
       ap
@@ -38,21 +38,21 @@ append_mark-requires-clause-agrees c =
     ) in
     let agrees : Agrees c.append.new.self.processes =
     subst Agrees (sym c.append.ensures.processes) (AgreesNext-check old c.history.ensures.agrees
-    c.args.to within c.of-state.result (Some c.number-number.result)).agrees in
-    AgreesNext-mark c.append.new.self.processes agrees c.args.to
+    c.args.marker.now.to within c.of-state.result (Some c.number-number.result)).agrees in
+    AgreesNext-mark c.append.new.self.processes agrees c.args.marker.now.to
     (omega (
       arith,
       within,
       ap (λ (h : List Process). length h) c.append.ensures.processes,
-      length-with_event old c.args.to e,
-    )) c.args.from c.number-number.result
+      length-with_event old c.args.marker.now.to e,
+    )) c.args.marker.now.from c.number-number.result
 
 pub returns-clause-world : goal.returns-clause-world
 returns-clause-world c =
     let history : List Process = c.args.catalogue.now.processes in
     let links : List (List (List Item)) = c.args.links.now in
-    let to : ℕ = c.args.to in
-    let from : ℕ = c.args.from in
+    let to : ℕ = c.args.marker.now.to in
+    let from : ℕ = c.args.marker.now.from in
     let r : ℕ = c.number-number.result in
     let e : Event = Check c.of-state.result (Some r) in
     let f : Event = Mark from r in

@@ -22,58 +22,66 @@ use Rattle.line_moves.proofs.round_moves.take_marker.Goals as goal
 pub force_round-requires-clause-first : goal.force_round-requires-clause-first
 force_round-requires-clause-first c =
     let history : List Process = c.args.catalogue.now.processes in
-    let none = forced_none history c.args.to c.args.round
-    (sym c.requires.forced ∙ c.if-forced.true) in
+    let from : ℕ = c.args.marker.now.from in
+    let to : ℕ = c.args.marker.now.to in
+    let round : ℕ = c.args.marker.now.round in
+    let none = forced_none history to round (sym c.requires.forced ∙ c.if-marker.true) in
     let opening : IsRunning Fifo history c.in-Some.kept = subst
     (IsOnlyOpen Fifo history) c.in-Some.is c.requires.opening in
-    let sent = marker_sent history c.args.links.now c.requires.world c.args.from c.args.to
-    c.args.round c.requires.from c.requires.to c.requires.other c.requires.marker in
-    ap (λ (v : ℕ). has_check_of v (tape_at history c.args.to)) (forced_number history c.in-Some.kept
-    c.args.from c.args.to c.args.round opening sent none c.requires.to) ∙ none
+    let sent = marker_sent history c.args.links.now c.requires.world from to round c.requires.from
+    c.requires.to c.requires.other c.requires.marker in
+    ap (λ (v : ℕ). has_check_of v (tape_at history to)) (forced_number history c.in-Some.kept from
+    to round opening sent none c.requires.to) ∙ none
 
 pub force_round-requires-clause-marker : goal.force_round-requires-clause-marker
 force_round-requires-clause-marker c =
     let history : List Process = c.args.catalogue.now.processes in
-    let none = forced_none history c.args.to c.args.round
-    (sym c.requires.forced ∙ c.if-forced.true) in
+    let from : ℕ = c.args.marker.now.from in
+    let to : ℕ = c.args.marker.now.to in
+    let round : ℕ = c.args.marker.now.round in
+    let none = forced_none history to round (sym c.requires.forced ∙ c.if-marker.true) in
     let opening : IsRunning Fifo history c.in-Some.kept = subst
     (IsOnlyOpen Fifo history) c.in-Some.is c.requires.opening in
-    let sent = marker_sent history c.args.links.now c.requires.world c.args.from c.args.to
-    c.args.round c.requires.from c.requires.to c.requires.other c.requires.marker in
+    let sent = marker_sent history c.args.links.now c.requires.world from to round c.requires.from
+    c.requires.to c.requires.other c.requires.marker in
     c.requires.marker ∙ ap (λ (v : ℕ). Some (Marker v)) (sym (forced_number history c.in-Some.kept
-    c.args.from c.args.to c.args.round opening sent none c.requires.to))
+    from to round opening sent none c.requires.to))
 
 pub unreachable-requires : goal.unreachable-requires
 unreachable-requires c =
     let history : List Process = c.args.catalogue.now.processes in
-    let none = forced_none history c.args.to c.args.round
-    (sym c.requires.forced ∙ c.if-forced.true) in
+    let from : ℕ = c.args.marker.now.from in
+    let to : ℕ = c.args.marker.now.to in
+    let round : ℕ = c.args.marker.now.round in
+    let none = forced_none history to round (sym c.requires.forced ∙ c.if-marker.true) in
     let opening : IsOnlyOpen Fifo history None = subst
     (IsOnlyOpen Fifo history) c.in-None.is c.requires.opening in
-    let sent = marker_sent history c.args.links.now c.requires.world c.args.from c.args.to
-    c.args.round c.requires.from c.requires.to c.requires.other c.requires.marker in
-    forced_open history c.args.from c.args.to c.args.round opening sent none c.requires.to
+    let sent = marker_sent history c.args.links.now c.requires.world from to round c.requires.from
+    c.requires.to c.requires.other c.requires.marker in
+    forced_open history from to round opening sent none c.requires.to
 
-pub returns-then-forced-clause-taken : goal.returns-then-forced-clause-taken
-returns-then-forced-clause-taken c =
+pub returns-then-marker-clause-taken : goal.returns-then-marker-clause-taken
+returns-then-marker-clause-taken c =
     let history : List Process = c.args.catalogue.now.processes in
-    let forced : is_forced history c.args.to c.args.round
-    ≡ true = sym c.requires.forced ∙ c.if-forced.true in
-    let none = forced_none history c.args.to c.args.round forced in
+    let from : ℕ = c.args.marker.now.from in
+    let to : ℕ = c.args.marker.now.to in
+    let round : ℕ = c.args.marker.now.round in
+    let forced : is_forced history to round ≡ true = sym c.requires.forced ∙ c.if-marker.true in
+    let none = forced_none history to round forced in
     let opening : IsRunning Fifo history c.in-Some.kept = subst
     (IsOnlyOpen Fifo history) c.in-Some.is c.requires.opening in
-    let sent = marker_sent history c.args.links.now c.requires.world c.args.from c.args.to
-    c.args.round c.requires.from c.requires.to c.requires.other c.requires.marker in
-    let number = forced_number history c.in-Some.kept c.args.from c.args.to c.args.round opening
-    sent none c.requires.to in
+    let sent = marker_sent history c.args.links.now c.requires.world from to round c.requires.from
+    c.requires.to c.requires.other c.requires.marker in
+    let number = forced_number history c.in-Some.kept from to round opening sent none
+    c.requires.to in
     on_ok_weaker c.force_round.result (λ taken. taken
-    ∙ ap (λ (v : ℕ). with_events history c.args.to
-    (Check c.args.state.now (Some v) ∷ Mark c.args.from v ∷ [])) number
-    ∙ ap (λ b. with_events history c.args.to (marker_events b c.args.from c.args.state.now
-    c.args.round)) (sym forced)) c.force_round.ensures.taken
+    ∙ ap (λ (v : ℕ). with_events history to
+    (Check c.args.state.now (Some v) ∷ Mark from v ∷ [])) number
+    ∙ ap (λ b. with_events history to (marker_events b from c.args.state.now round)) (sym forced))
+    c.force_round.ensures.taken
 
-pub returns-then-forced-clause-opening : goal.returns-then-forced-clause-opening
-returns-then-forced-clause-opening c =
+pub returns-then-marker-clause-opening : goal.returns-then-marker-clause-opening
+returns-then-marker-clause-opening c =
     let history : List Process = c.args.catalogue.now.processes in
     let kept : OpenView = c.in-Some.kept in
     let new : OpenView = c.force_round.new.running in
@@ -82,8 +90,8 @@ returns-then-forced-clause-opening c =
     (IsOnlyOpen Fifo history) c.in-Some.is c.requires.opening in
     either_way c.force_round.result
     (λ taken. subst (λ (h : List Process). IsRunning Fifo h new) (sym taken)
-    (IsRunning-forced Fifo history c.args.to c.args.from kept.number c.args.state.now new
-    c.requires.to c.force_round.ensures.number opening.others
+    (IsRunning-forced Fifo history c.args.marker.now.to c.args.marker.now.from kept.number
+    c.args.state.now new c.requires.to c.force_round.ensures.number opening.others
     (subst (λ (h : List Process). IsRecording h new) taken c.force_round.ensures.recording)))
     (λ same. subst (λ (h : List Process). IsRunning Fifo h new) (sym same)
     (IsRunning-renewed Fifo history kept new c.force_round.ensures.number opening
@@ -92,22 +100,25 @@ returns-then-forced-clause-opening c =
 
 pub append_mark-requires-clause-agrees : goal.append_mark-requires-clause-agrees
 append_mark-requires-clause-agrees c =
-    AgreesNext-mark c.reserve.new.self.processes c.history.ensures.agrees c.args.to
+    AgreesNext-mark c.reserve.new.self.processes c.history.ensures.agrees c.args.marker.now.to
     (omega (
       arith,
       c.requires.to,
       ap (λ (h : List Process). length h)
           c.in_ok-reserve.ensures.processes,
-    )) c.args.from c.args.round
+    )) c.args.marker.now.from c.args.marker.now.round
 
 pub returns-clause-world : goal.returns-clause-world
 returns-clause-world c =
     let history : List Process = c.args.catalogue.now.processes in
-    let begun : has_check_of c.args.round (tape_at history c.args.to) ≡ true = search rules in
-    let after = c.append_mark.ensures.processes ∙ ap (λ (h : List Process). with_event h c.args.to
-    (Mark c.args.from c.args.round)) c.in_ok-reserve.ensures.processes in
+    let from : ℕ = c.args.marker.now.from in
+    let to : ℕ = c.args.marker.now.to in
+    let round : ℕ = c.args.marker.now.round in
+    let begun : has_check_of round (tape_at history to) ≡ true = search rules in
+    let after = c.append_mark.ensures.processes ∙ ap (λ (h : List Process). with_event h to
+    (Mark from round)) c.in_ok-reserve.ensures.processes in
     subst (λ (h : List Process). IsWorld Fifo h c.drop_first.new.self) (sym after)
     (subst (λ (q : List (List (List Item))). IsWorld Fifo
-    (with_event history c.args.to (Mark c.args.from c.args.round)) q) (sym c.drop_first.ensures)
-    (IsWorld-mark history c.args.links.now c.requires.world c.args.from c.args.to c.args.round
-    c.requires.from c.requires.to c.requires.other c.requires.marker begun))
+    (with_event history to (Mark from round)) q) (sym c.drop_first.ensures)
+    (IsWorld-mark history c.args.links.now c.requires.world from to round c.requires.from
+    c.requires.to c.requires.other c.requires.marker begun))

@@ -19,8 +19,8 @@ count_channels-requires-clause-at c = omega
 
 pub count_channels-requires-clause-first : goal.count_channels-requires-clause-first
 count_channels-requires-clause-first c =
-    subst (λ (h : List Process). has_check_of c.args.turning.now.number (tape_at h c.args.at)
-    ≡ false) (sym c.in_ok-reserve.ensures.processes) c.requires.first
+    subst (λ (h : List Process). has_check_of c.args.turning.now.number
+    (tape_at h c.args.turn.now.at) ≡ false) (sym c.in_ok-reserve.ensures.processes) c.requires.first
 
 pub count_channels-requires-clause-turning : goal.count_channels-requires-clause-turning
 count_channels-requires-clause-turning c = subst (λ (h : List Process). IsTurning h
@@ -30,9 +30,9 @@ pub append-requires-clause-agrees : goal.append-requires-clause-agrees
 append-requires-clause-agrees c =
     let kept : c.count_channels.new.catalogue.processes ≡ c.args.catalogue.now.processes =
     c.in_ok-channels.ensures.processes ∙ c.in_ok-reserve.ensures.processes in
-    AgreesNext-check c.count_channels.new.catalogue.processes c.history.ensures.agrees c.args.at
-    (omega (arith, c.requires.at, ap (λ (h : List Process). length h) kept)) c.of-state.result
-    (Some c.number-number.result)
+    AgreesNext-check c.count_channels.new.catalogue.processes c.history.ensures.agrees
+    c.args.turn.now.at (omega (arith, c.requires.at, ap (λ (h : List Process). length h) kept))
+    c.of-state.result (Some c.number-number.result)
 
 pub count_channels-requires-clause-rounds : goal.count_channels-requires-clause-rounds
 count_channels-requires-clause-rounds c = subst (λ (h : List Process). All
@@ -41,7 +41,7 @@ count_channels-requires-clause-rounds c = subst (λ (h : List Process). All
 pub returns-clause-channels : goal.returns-clause-channels
 returns-clause-channels c =
     let history : List Process = c.args.catalogue.now.processes in
-    let at : ℕ = c.args.at in
+    let at : ℕ = c.args.turn.now.at in
     let state : List ℕ = c.of-state.result in
     let r : ℕ = c.args.turning.now.number in
     let e : Event = Check state (Some r) in

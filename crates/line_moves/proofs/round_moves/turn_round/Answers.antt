@@ -23,19 +23,20 @@ take_turn-requires-clause-rounds c =
 pub take_turn-requires-clause-first : goal.take_turn-requires-clause-first
 take_turn-requires-clause-first c =
     let history : List Process = c.args.catalogue.now.processes in
-    let kept = open_round history c.args._round c.args.turning.now c.in-Some.round c.in-Some.is
-    c.requires.kept in
-    ap (λ (v : ℕ). has_check_of v (tape_at history c.args.at)) kept.0 ∙ c.requires.first
+    let kept = open_round history c.args.turn.now.round c.args.turning.now c.in-Some.round
+    c.in-Some.is c.requires.kept in
+    ap (λ (v : ℕ). has_check_of v (tape_at history c.args.turn.now.at)) kept.0 ∙ c.requires.first
 
 pub take_turn-requires-clause-greater : goal.take_turn-requires-clause-greater
 take_turn-requires-clause-greater c =
-    let kept = open_round c.args.catalogue.now.processes c.args._round c.args.turning.now
+    let kept = open_round c.args.catalogue.now.processes c.args.turn.now.round c.args.turning.now
     c.in-Some.round c.in-Some.is c.requires.kept in
     omega (arith, c.requires.greater, kept.0)
 
 pub take_turn-requires-clause-turning : goal.take_turn-requires-clause-turning
-take_turn-requires-clause-turning c = (open_round c.args.catalogue.now.processes c.args._round
-    c.args.turning.now c.in-Some.round c.in-Some.is c.requires.kept).1
+take_turn-requires-clause-turning c =
+    (open_round c.args.catalogue.now.processes c.args.turn.now.round c.args.turning.now
+    c.in-Some.round c.in-Some.is c.requires.kept).1
 
 pub of_turning-requires-clause-turning : goal.of_turning-requires-clause-turning
 of_turning-requires-clause-turning c =
@@ -75,7 +76,7 @@ returns-in-Some-take-clause-settled c =
     record {
       round = new;
       number_is = c.in_ok-check-in-Some.ensures.number ∙ (open_round c.args.catalogue.now.processes
-          c.args._round c.args.turning.now c.in-Some.round c.in-Some.is c.requires.kept).0;
+          c.args.turn.now.round c.args.turning.now c.in-Some.round c.in-Some.is c.requires.kept).0;
       follows = c.in_ok-check-in-Some.ensures.turning;
       listed = c.push.ensures
           ∙ ap (λ (ls : List ListedRound). ls ++ c.of_turning.result ∷ [])
