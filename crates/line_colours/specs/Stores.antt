@@ -11,7 +11,7 @@ abbrev pub stored_messages : MessageStore → List MsgName
 stored_messages (Few messages) = messages.items
 stored_messages (Many messages) = messages
 
--- they stand in a buffer that others may hold too
+-- they stand in buffers that others may hold too
 abbrev pub is_shared : MessageStore → Bool
 is_shared (Few messages) = false
 is_shared (Many messages) = true

@@ -1,23 +1,23 @@
-//! Messages by sender: few in a list of their own, and many in a buffer that others may hold too.
+//! Messages by sender: few in a list of their own, and many in buffers that others may hold too.
 ghost use Rattle.std.specs.Prelude.{◌≡◌, ◌↔◌, IfOk, IfSome, IsTrue};
 ghost use Rattle.line_colours.specs.Inboxes.{messages_from, ComeBySender};
 ghost use Rattle.line_colours.specs.Stores.{are_many};
 
 use crate::parts::BufferParts;
-use crate::runs::are_equal;
+use crate::runs::{Sharing, are_equal};
 use line_names::{MsgName, ProcId};
 use std::alloc::{AllocError, Global};
 use std::marker::Model;
 
-/// Fewer messages than this have no buffer that others hold too: it takes some 100 bytes more than
-/// a list of them.
+/// Fewer messages than this have no buffers that others hold too, as these take more memory than a
+/// list of them.
 const LEAST_TO_SHARE: usize = 64;
 
 /// How many messages there are for each sender on the average, at least, where others hold the
-/// buffer too. A part of a buffer takes as much memory as two messages.
+/// buffers too. A buffer and a part of it take as much memory as some eight messages.
 const LEAST_OF_EACH: usize = 16;
 
-/// Whether there are so many messages that parts of a buffer take little memory beside them. It
+/// Whether there are so many messages that parts of buffers take little memory beside them. It
 /// takes constant time: it counts each process from the first sender to the last as one.
 fn are_many(messages: &[MsgName]) -> bool
     ensures { result ≡ are_many messages.now }
@@ -75,7 +75,7 @@ impl BySender {
         ensures { IfOk result (λ kept. kept ≡ messages.items) }
     {
         if are_many(&messages) {
-            let parts = BufferParts::new(alloc, messages)?;
+            let parts = BufferParts::new(alloc, &messages)?;
             let store = MessageStore::Many(parts);
             return Ok(BySender { store });
         }
@@ -112,7 +112,7 @@ impl BySender {
         }
     }
 
-    /// Whether they stand in a buffer that others may hold too.
+    /// Whether they stand in buffers that others may hold too.
     pub(crate) fn are_shared(&self) -> bool {
         match &self.store {
             MessageStore::Few(_messages) => false,
@@ -120,8 +120,8 @@ impl BySender {
         }
     }
 
-    /// The same messages, in the same buffer where others may hold that too, and else in a list of
-    /// their own.
+    /// The same messages, in the same buffers where others may hold these too, and else in a list
+    /// of their own.
     pub(crate) fn share(&self, alloc: Global) -> Result<BySender, AllocError>
         ensures { IfOk result (λ kept. kept ≡ self.now) }
     {
@@ -139,12 +139,12 @@ impl BySender {
         }
     }
 
-    /// The same messages in the buffer of others, if those of each sender are the first ones of
-    /// that sender there.
-    pub(crate) fn lean_on(
+    /// The same messages, if those of a sender can come to stand in one buffer with the other's.
+    pub(crate) fn hold_with(
         &self,
         alloc: Global,
         other: &BySender,
+        sharing: Sharing,
     ) -> Result<Option<BySender>, AllocError>
         ensures { IfOk result (λ found. IfSome found (λ kept. kept ≡ self.now)) }
     {
@@ -152,7 +152,7 @@ impl BySender {
             MessageStore::Few(_ours) => Ok(None),
             MessageStore::Many(ours) => match &other.store {
                 MessageStore::Few(_theirs) => Ok(None),
-                MessageStore::Many(theirs) => match ours.lean_on(alloc, theirs)? {
+                MessageStore::Many(theirs) => match ours.hold_with(alloc, theirs, sharing)? {
                     Some(parts) => {
                         let store = MessageStore::Many(parts);
                         Ok(Some(BySender { store }))

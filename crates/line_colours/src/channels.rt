@@ -9,6 +9,7 @@ ghost use Rattle.line_colours.specs.Inboxes.{InboxView};
 ghost use Rattle.line_colours.specs.Tables.{between, table_of, IsTable};
 
 use crate::inboxes::Inbox;
+use crate::runs::Sharing;
 use line_names::{MOST_PROCESSES, MsgName, ProcId};
 use line_tape::History;
 use std::alloc::{AllocError, Global};
@@ -122,69 +123,77 @@ fn inbox_of(inboxes: &[Inbox], to: ProcId) -> Option<&Inbox>
     }
 }
 
-/// The same inbox, if it can lean on the later one of its process.
-fn leaning_inbox(alloc: Global, inbox: &Inbox, later: &[Inbox]) -> Result<Option<Inbox>, AllocError>
-    ensures { IfOk result (λ found. IfSome found (λ leaning. leaning ≡ inbox.now)) }
+/// The same inbox, if it can come to stand in one buffer with the other one of its process.
+fn held_inbox(
+    alloc: Global,
+    inbox: &Inbox,
+    others: &[Inbox],
+    sharing: Sharing,
+) -> Result<Option<Inbox>, AllocError>
+    ensures { IfOk result (λ found. IfSome found (λ held. held ≡ inbox.now)) }
 {
-    if !inbox.may_lean() {
+    if !inbox.may_share() {
         return Ok(None);
     }
-    match inbox_of(later, inbox.to()) {
-        Some(other) => inbox.lean_on(alloc, other),
+    match inbox_of(others, inbox.to()) {
+        Some(other) => inbox.hold_with(alloc, other, sharing),
         None => Ok(None),
     }
 }
 
-/// The same inbox, which leans on the later one of its process if it can; `leans` is set where it
-/// does.
-fn lean_or_share(
+/// The same inbox, in one buffer with the other one of its process if that can be; `holds` is set
+/// where it is, and else it stays where it stands.
+fn hold_or_share_inbox(
     alloc: Global,
     inbox: &Inbox,
-    later: &[Inbox],
-    leans: &mut bool,
+    others: &[Inbox],
+    sharing: Sharing,
+    holds: &mut bool,
 ) -> Result<Inbox, AllocError>
-    ensures { IfOk result (λ leaning. leaning ≡ inbox.now) }
+    ensures { IfOk result (λ held. held ≡ inbox.now) }
 {
-    match leaning_inbox(alloc, inbox, later)? {
-        Some(leaning) => {
-            *leans = true;
-            Ok(leaning)
+    match held_inbox(alloc, inbox, others, sharing)? {
+        Some(held) => {
+            *holds = true;
+            Ok(held)
         }
         None => inbox.share(alloc),
     }
 }
 
-/// Whether one of the inboxes may lean on another.
-fn may_lean(inboxes: &[Inbox]) -> bool {
+/// Whether one of the inboxes may come to stand in one buffer with another.
+fn may_share(inboxes: &[Inbox]) -> bool {
     for inbox in inboxes {
-        if inbox.may_lean() {
+        if inbox.may_share() {
             return true;
         }
     }
     false
 }
 
-/// The same inboxes, if one of them can lean on the later one of its process. Each that can does.
-fn lean_inboxes(
+/// The same inboxes, if one of them can come to stand in one buffer with the other one of its
+/// process. Each that can does.
+fn hold_inboxes(
     alloc: Global,
     inboxes: &[Inbox],
-    later: &[Inbox],
+    others: &[Inbox],
+    sharing: Sharing,
 ) -> Result<Option<Vec<Inbox>>, AllocError>
-    ensures { IfOk result (λ found. IfSome found (λ leaning. leaning.items ≡ inboxes.now)) }
+    ensures { IfOk result (λ found. IfSome found (λ held. held.items ≡ inboxes.now)) }
 {
-    if !may_lean(inboxes) {
+    if !may_share(inboxes) {
         return Ok(None);
     }
-    let mut leaning = Vec::with_capacity(alloc, inboxes.len())?;
-    let mut leans = false;
+    let mut held = Vec::with_capacity(alloc, inboxes.len())?;
+    let mut holds = false;
     for inbox in inboxes {
-        let next = lean_or_share(alloc, inbox, later, &mut leans)?;
-        leaning.push(next)?;
+        let next = hold_or_share_inbox(alloc, inbox, others, sharing, &mut holds)?;
+        held.push(next)?;
     }
-    if !leans {
+    if !holds {
         return Ok(None);
     }
-    Ok(Some(leaning))
+    Ok(Some(held))
 }
 
 /// What is in transit at a line, from each process to each other, by number: what the channels of a
@@ -274,18 +283,44 @@ impl Channels {
         self.n == other.n && are_same(&self.inboxes, &other.inboxes)
     }
 
-    /// The same channels, in less memory, if a process has many messages in transit, and those from
-    /// each sender are the first ones from it that are in transit to the process at the later line:
-    /// then they stand in the later ones' place.
+    /// The same channels, in one place with the other ones where that can be.
+    fn hold_with(
+        &self,
+        alloc: Global,
+        other: &Channels,
+        sharing: Sharing,
+    ) -> Result<Option<Channels>, AllocError>
+        ensures { IfOk result (λ found. IfSome found (λ channels. channels ≡ self.now)) }
+    {
+        match hold_inboxes(alloc, &self.inboxes, &other.inboxes, sharing)? {
+            Some(inboxes) => Ok(Some(Channels { n: self.n, inboxes })),
+            None => Ok(None),
+        }
+    }
+
+    /// The same channels, in less memory, where a process has many messages in transit: those of a
+    /// channel that stand, one after the other, in the buffer of the later line's channel are shown
+    /// there. None if those of no channel do, or if they are shown there already.
     ///
-    /// It looks at each inbox, and where messages are many at each message up to the first that is
+    /// It looks at each inbox, and where messages are many at each of them up to the first that is
     /// another one there. It takes memory for each inbox and for each sender.
     pub fn lean_on(&self, alloc: Global, later: &Channels) -> Result<Option<Channels>, AllocError>
         ensures { IfOk result (λ found. IfSome found (λ leaning. leaning ≡ self.now)) }
     {
-        match lean_inboxes(alloc, &self.inboxes, &later.inboxes)? {
-            Some(inboxes) => Ok(Some(Channels { n: self.n, inboxes })),
-            None => Ok(None),
-        }
+        self.hold_with(alloc, later, Sharing::Lean)
+    }
+
+    /// The same channels, in buffers that have what an earlier line's hold before them, so that
+    /// these and those of lines between can lean on them. A channel that holds many messages is so
+    /// joined where the last of the earlier ones are the first of its own, as on a link that is
+    /// slow and keeps its order. None if no channel is, or if the earlier ones can lean already.
+    ///
+    /// It looks at each inbox, and where messages are many at each of them up to the first that is
+    /// another one there. It takes memory for each inbox and sender, and for the messages of both
+    /// lines on each channel that is joined.
+    pub fn join(&self, alloc: Global, earlier: &Channels) -> Result<Option<Channels>, AllocError>
+        ensures { IfOk result (λ found. IfSome found (λ joined. joined ≡ self.now)) }
+    {
+        self.hold_with(alloc, earlier, Sharing::Join)
     }
 }

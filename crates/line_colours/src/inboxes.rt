@@ -3,6 +3,7 @@ ghost use Rattle.std.specs.Prelude.{◌≡◌, ◌↔◌, ℕ, IfOk, IsTrue, len
 ghost use Rattle.line_colours.specs.Inboxes.{messages_from, AreFrom, ComeBySender};
 
 use crate::by_sender::BySender;
+use crate::runs::Sharing;
 use line_names::{MsgName, ProcId};
 use std::alloc::{AllocError, Global};
 use std::marker::Model;
@@ -81,12 +82,12 @@ impl Inbox {
         self.to == other.to && self.messages.is_same(&other.messages)
     }
 
-    /// Whether it may lean on another one.
-    pub(crate) fn may_lean(&self) -> bool {
+    /// Whether it may come to stand in one buffer with another one.
+    pub(crate) fn may_share(&self) -> bool {
         self.messages.are_shared()
     }
 
-    /// The same messages to the same process, in the same buffer where it may lean.
+    /// The same messages to the same process, in the same buffers where others may hold these too.
     pub(crate) fn share(&self, alloc: Global) -> Result<Inbox, AllocError>
         ensures { IfOk result (λ inbox. inbox ≡ self.now) }
     {
@@ -98,12 +99,17 @@ impl Inbox {
         })
     }
 
-    /// The same messages to the same process, in the buffer of a later inbox, if those of each
-    /// sender are the first ones of that sender there.
-    pub(crate) fn lean_on(&self, alloc: Global, later: &Inbox) -> Result<Option<Inbox>, AllocError>
+    /// The same messages to the same process, if those of a sender can come to stand in one buffer
+    /// with the other inbox's.
+    pub(crate) fn hold_with(
+        &self,
+        alloc: Global,
+        other: &Inbox,
+        sharing: Sharing,
+    ) -> Result<Option<Inbox>, AllocError>
         ensures { IfOk result (λ found. IfSome found (λ inbox. inbox ≡ self.now)) }
     {
-        match self.messages.lean_on(alloc, &later.messages)? {
+        match self.messages.hold_with(alloc, &other.messages, sharing)? {
             Some(messages) => Ok(Some(Inbox {
                 to: self.to,
                 senders: self.senders,

@@ -85,6 +85,24 @@ impl SharedChannels {
         }
     }
 
+    /// The same channels, with what earlier ones hold before them, so that these can lean on them:
+    /// see `Channels::join`. None if both are held together already.
+    pub fn join(
+        &self,
+        alloc: Global,
+        earlier: &SharedChannels,
+    ) -> Result<Option<SharedChannels>, AllocError>
+        ensures { IfOk result (λ found. IfSome found (λ shared. shared ≡ self.now)) }
+    {
+        if self.is_one_with(earlier) {
+            return Ok(None);
+        }
+        match self.channels.join(alloc, &earlier.channels)? {
+            Some(channels) => Ok(Some(SharedChannels::new(alloc, channels)?)),
+            None => Ok(None),
+        }
+    }
+
     /// The channel from one process to another, by number.
     ///
     /// It takes constant time if something is in transit to each process up to this one, and

@@ -4,7 +4,7 @@ ghost use Rattle.std.specs.Prelude.{OnOk, All};
 ghost use Rattle.line_moves.specs.Listed.{stays, IsSnapshotOf};
 ghost use Rattle.line_moves.specs.Listings.{Climb};
 
-use crate::leanings::{are_one, lean};
+use crate::leanings::{are_one, lean_in_block};
 use crate::rounds::Round;
 use line_names::Line;
 use line_tape::History;
@@ -120,8 +120,9 @@ impl Listing {
     ///
     /// At each of four levels it looks at what is in transit at the checks of one round, and at
     /// each round that holds this in one place with it. It takes memory for each process that
-    /// something is in transit to, and for each sender. Where memory is refused, rounds stay as
-    /// they are held.
+    /// something is in transit to, and for each sender; where a block is whole, also for what is in
+    /// transit at the checks of its first round and its last. Where memory is refused, rounds stay
+    /// as they are held.
     pub(crate) fn settle(&mut self, alloc: Global, history: &History)
         requires { All (IsSnapshotOf history.now.processes) self.old.items }
         ensures { self.new.items ≡ self.old.items }
@@ -130,14 +131,16 @@ impl Listing {
             return;
         }
         self.is_due = false;
-        self.settle_at(alloc, history, LEANING);
-        self.settle_at(alloc, history, LEANING * LEANING);
-        self.settle_at(alloc, history, LEANING * LEANING * LEANING);
+        // The largest first: what is joined for a block serves the last ones of its smaller blocks.
         self.settle_at(alloc, history, LEANING * LEANING * LEANING * LEANING);
+        self.settle_at(alloc, history, LEANING * LEANING * LEANING);
+        self.settle_at(alloc, history, LEANING * LEANING);
+        self.settle_at(alloc, history, LEANING);
     }
 
     /// Has one round lean at the level whose blocks have so many channels that were counted: of the
-    /// last whole block, the one at the place that the last has in its own.
+    /// last whole block, the one at the place that the last has in its own. A block that has just
+    /// become whole has its last round joined with its first one before.
     fn settle_at(&mut self, alloc: Global, history: &History, size: usize)
         requires size { 0 < size }
         requires rounds { All (IsSnapshotOf history.now.processes) self.old.items }
@@ -150,7 +153,7 @@ impl Listing {
         }
         let first = self.counted[end - size + place];
         let target = self.counted[end - 1];
-        let _leans = lean(alloc, history, &mut self.rounds, first, target).is_ok();
+        let _leans = lean_in_block(alloc, history, &mut self.rounds, first, target, place).is_ok();
     }
 
     /// Keeps the rounds none of whose checks a restart at the line cuts. It takes no memory. Where

@@ -1,5 +1,5 @@
 -- The two searches find where what the process sent begins and ends.
-use Rattle.std.proofs.Common.{◌≡◌, ℕ, leb, ltb, List, rules}
+use Rattle.std.proofs.Common.{ℕ, leb, ltb, List, rules}
 use Rattle.std.proofs.lemmas.List.Sorted.{IsPartitionPoint-from_clause, IsPartitionedBy-leb}
 use Rattle.std.proofs.lemmas.List.Sorted.{IsPartitionedBy-ltb}
 use Rattle.line_names.specs.declared.messages.MsgName.{MsgName}

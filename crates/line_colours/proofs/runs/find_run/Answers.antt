@@ -1,19 +1,19 @@
 -- The search finds the run of the process, if it has one.
-use Rattle.std.proofs.Common.{◌≡◌, ◌≢◌, ℕ, ltb, List, sym, ap, ◌∙◌, arith, rules}
+use Rattle.std.proofs.Common.{◌≡◌, ◌≢◌, ℕ, ltb, List, sym, arith, rules}
 use Rattle.std.proofs.lemmas.List.Sorted.{IsPartitionPoint-from_clause, IsPartitionedBy-ltb}
-use Rattle.line_colours.specs.declared.runs.SenderRun.{SenderRun}
+use Rattle.line_colours.specs.Runs.{RunView}
 use Rattle.line_colours.proofs.RunLemmas.{run_found, run_lost, run_past, runs_in_order}
 use Rattle.line_colours.proofs.runs.find_run.Goals as goal
 
 pub returns-then-get : goal.returns-then-get
 returns-then-get c =
-    let runs : List SenderRun = c.args.runs.now in
+    let runs : List RunView = c.args.runs.now in
     let p : ℕ = c.args.p in
-    let run : SenderRun = c.in-Some.run'.now in
+    let run : RunView = c.in-Some.run'.now in
     let place : ℕ = c.partition_point-place.result in
-    let point = IsPartitionPoint-from_clause (λ (r : SenderRun). ltb r.from p) _ _
+    let point = IsPartitionPoint-from_clause (λ (r : RunView). ltb r.from p) _ _
     c.partition_point-place.ensures.partitioned
-    (IsPartitionedBy-ltb (λ (r : SenderRun). r.from) runs p (runs_in_order runs c.requires))
+    (IsPartitionedBy-ltb (λ (r : RunView). r.from) runs p (runs_in_order runs c.requires))
     (λ a r q k. search rules) in
     let found = c.in-Some.ensures.lookup.3 in
     let same : run.from ≡ p =
@@ -22,13 +22,13 @@ returns-then-get c =
 
 pub returns-else-get : goal.returns-else-get
 returns-else-get c =
-    let runs : List SenderRun = c.args.runs.now in
+    let runs : List RunView = c.args.runs.now in
     let p : ℕ = c.args.p in
-    let run : SenderRun = c.in-Some.run'.now in
+    let run : RunView = c.in-Some.run'.now in
     let place : ℕ = c.partition_point-place.result in
-    let point = IsPartitionPoint-from_clause (λ (r : SenderRun). ltb r.from p) _ _
+    let point = IsPartitionPoint-from_clause (λ (r : RunView). ltb r.from p) _ _
     c.partition_point-place.ensures.partitioned
-    (IsPartitionedBy-ltb (λ (r : SenderRun). r.from) runs p (runs_in_order runs c.requires))
+    (IsPartitionedBy-ltb (λ (r : RunView). r.from) runs p (runs_in_order runs c.requires))
     (λ a r q k. search rules) in
     let found = c.in-Some.ensures.lookup.3 in
     let other : run.from ≢ p =
@@ -38,11 +38,11 @@ returns-else-get c =
 
 pub returns-in-None : goal.returns-in-None
 returns-in-None c =
-    let runs : List SenderRun = c.args.runs.now in
+    let runs : List RunView = c.args.runs.now in
     let p : ℕ = c.args.p in
     let place : ℕ = c.partition_point-place.result in
-    let point = IsPartitionPoint-from_clause (λ (r : SenderRun). ltb r.from p) _ _
+    let point = IsPartitionPoint-from_clause (λ (r : RunView). ltb r.from p) _ _
     c.partition_point-place.ensures.partitioned
-    (IsPartitionedBy-ltb (λ (r : SenderRun). r.from) runs p (runs_in_order runs c.requires))
+    (IsPartitionedBy-ltb (λ (r : RunView). r.from) runs p (runs_in_order runs c.requires))
     (λ a r q k. search rules) in
     sym (run_past runs p place point c.in-None.ensures.lookup.3)

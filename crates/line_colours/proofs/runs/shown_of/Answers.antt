@@ -1,14 +1,16 @@
 -- What one process sent of what runs show is what its run shows.
 use Rattle.std.proofs.Common.{sym, ap, ◌∙◌}
+use Rattle.std.specs.Option.{option_copied}
 use Rattle.line_colours.proofs.RunLemmas.{run_or_none, shown}
 use Rattle.line_colours.proofs.runs.shown_of.Goals as goal
 
 pub returns-in-Some : goal.returns-in-Some
 returns-in-Some c =
-    sym (shown c.args.buffer.now c.args.runs.now c.args.p c.requires
-    ∙ ap (run_or_none c.args.buffer.now) (sym c.run_of.ensures.found ∙ c.in-Some.is))
+    c.messages.ensures
+    ∙ sym (shown c.args.runs.now c.args.p c.requires
+    ∙ ap run_or_none (sym c.find_run.ensures ∙ ap option_copied c.in-Some.is))
 
 pub returns-in-None : goal.returns-in-None
 returns-in-None c =
-    sym (shown c.args.buffer.now c.args.runs.now c.args.p c.requires
-    ∙ ap (run_or_none c.args.buffer.now) (sym c.run_of.ensures.found ∙ c.in-None.is))
+    sym (shown c.args.runs.now c.args.p c.requires
+    ∙ ap run_or_none (sym c.find_run.ensures ∙ ap option_copied c.in-None.is))

@@ -1,11 +1,11 @@
 use Rattle.std.proofs.Common.{◌≡◌, ◌<◌, ◌≤◌, ◌-◌}
-use Rattle.line_moves.proofs.leanings.lean.Given as goal
+use Rattle.line_moves.proofs.leanings.hold_from.Given as goal
 
 abbrev pub invariant-one : goal.invariant-one
-invariant-one l = l.end ≤ l.target
+invariant-one l = l.end ≤ l.limit
 
 abbrev pub decreases-one : goal.decreases-one
-decreases-one l = l.target - l.end
+decreases-one l = l.limit - l.end
 
 abbrev pub invariant-each : goal.invariant-each
 invariant-each l = (l.rounds ≡ l.initial.rounds) × (l.first < l.k)
