@@ -1,16 +1,19 @@
 -- What is left of the markers of a round once those are out that recorded nothing.
-use Rattle.std.proofs.Common.{◌≡◌, ◌≢◌, ℕ, zero, suc, ◌+◌, ◌<◌, ◌≤◌, true, false, cond, ltb, List}
-use Rattle.std.proofs.Common.{[], ◌∷◌, length, get_or, refl, sym, ap, ◌∙◌, subst, arith, inl, inr}
+use Rattle.std.proofs.Common.{◌≡◌, ◌≢◌, ℕ, zero, suc, ◌+◌, ◌*◌, ◌%◌, ◌^◌, ◌<◌, ◌≤◌, true, false}
+use Rattle.std.proofs.Common.{cond, ltb, List, [], ◌∷◌, length, get_or, refl, sym, ap, ◌∙◌, subst}
+use Rattle.std.proofs.Common.{arith, inl, inr, bit_or, w64}
+use Rattle.std.specs.Int.{bit_at}
 use Rattle.std.specs.Prelude.{All, remove}
 use Rattle.std.specs.List.Sorted.{IsNonDecreasingBy, IsPartitionPoint}
 use Rattle.std.specs.Option.{unwrap_or}
 use Rattle.std.proofs.lemmas.Bool.{cases_eq, cases_lt, eq-eqb, ltb-false, ltb-true, ne_eqb}
 use Rattle.std.proofs.lemmas.List.{get_or_default}
 use Rattle.std.proofs.lemmas.List.Elements.{All-nil, All-cons, All-head, All-tail}
+use Rattle.std.proofs.lemmas.Nat.Bits.{bit_at_set_same, bit_at_set_other}
 use Rattle.line_marker.specs.Recording.{MarkerView, messages_by, round_of}
 use Rattle.line_names.specs.declared.messages.MsgName.{MsgName}
 use Rattle.line_moves.specs.Openings.{kept_channel, marker_at, marker_of, no_marker}
-use Rattle.line_moves.specs.Openings.{recorded_channel, AreByProcess, AreMarkers}
+use Rattle.line_moves.specs.Openings.{recorded_channel, AreByProcess, AreMarkers, AreRecordedBy}
 
 -- the markers are of later and later processes, the first of them of this one or a later one
 abbrev pub Ascend : ℕ → List MarkerView → Type 0
@@ -94,6 +97,31 @@ found_nowhere [] q none = refl
 found_nowhere (marker ∷ rest) q none =
     ap (λ b. cond b marker (marker_of rest q)) (ne_eqb marker.me q (none 0 (omega arith)))
     ∙ found_nowhere rest q (λ k within. none (suc k) (omega (arith, within)))
+
+-- a bit for one process more
+pub bits_more : (old : ℕ) (markers : List MarkerView) (i p : ℕ)
+    → ((k : ℕ) (d : MarkerView) → k < i → bit_at old ((get_or markers k d).me % 64) ≡ 1)
+    → ((d : MarkerView) → (get_or markers i d).me ≡ p)
+    → (k : ℕ) (d : MarkerView) → k < i + 1
+    → bit_at (bit_or old (1 * 2 ^ (p % 64) % 2 ^ 64)) ((get_or markers k d).me % 64) ≡ 1
+bits_more old markers i p before own k d within =
+    let bit : ℕ = (get_or markers k d).me % 64 in
+    elim (cases_eq bit (p % 64)) [
+      | inl same ↦ ap (bit_at (bit_or old (1 * 2 ^ (p % 64) % 2 ^ 64))) same
+          ∙ bit_at_set_same w64 old (p % 64) (omega arith)
+      | inr apart ↦
+          let other : k ≢ i = λ e. apart (ap (λ (j : ℕ). (get_or markers j d).me % 64) e
+          ∙ ap (λ (q : ℕ). q % 64) (own d)) in
+          bit_at_set_other w64 old (p % 64) (omega arith) bit apart
+          ∙ before k d (omega (arith, within, other))
+    ]
+
+-- a process whose bit is not set recorded nothing
+pub none_recorded : (bits : ℕ) (markers : List MarkerView) (q : ℕ) → AreRecordedBy bits markers
+    → bit_at bits (q % 64) ≡ 0 → marker_of markers q ≡ no_marker
+none_recorded bits markers q recorded absent =
+    found_nowhere markers q (λ k within e. absurd (omega
+    (arith, absent, ap (λ (p : ℕ). bit_at bits (p % 64)) e, recorded k no_marker within)))
 
 -- the marker of a process that stands at some place is the one that is found
 pub found_here : (markers : List MarkerView) (place q : ℕ) (marker : MarkerView)

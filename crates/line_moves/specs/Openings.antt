@@ -1,9 +1,10 @@
 -- What is kept of the round that is open, and how it follows the tapes.
 use Rattle.std.specs.Option.{unwrap_or}
 use Rattle.std.specs.List.{count_by, sum_by}
-use Rattle.std.specs.Prelude.{◌≡◌, ◌≢◌, ◌==◌, ℕ, suc, ◌<◌, ◌≤◌, ◌+◌, ◌-◌, ◌*◌, Bool, true, false}
-use Rattle.std.specs.Prelude.{if◌then◌else◌, List, [], ◌∷◌, ◌++◌, length, slice_index_or, Option}
-use Rattle.std.specs.Prelude.{Some, None, All, AllPairs}
+use Rattle.std.specs.Int.{bit_at}
+use Rattle.std.specs.Prelude.{◌≡◌, ◌≢◌, ◌==◌, ℕ, suc, ◌<◌, ◌≤◌, ◌+◌, ◌-◌, ◌*◌, ◌%◌, Bool, true}
+use Rattle.std.specs.Prelude.{false, if◌then◌else◌, List, [], ◌∷◌, ◌++◌, length, slice_index_or}
+use Rattle.std.specs.Prelude.{Option, Some, None, All, AllPairs}
 use Rattle.line_marker.specs.Recording.{Channel, MarkerView, RecordedRound, channel_at, messages_by}
 use Rattle.line_marker.specs.Recording.{round_of}
 use Rattle.line_names.specs.declared.choices.Choice.{Choice}
@@ -210,6 +211,11 @@ channels_kept (Some table) n markers r = channel_table n (between table)
 -- what processes recorded, by process
 abbrev pub AreByProcess : List MarkerView → Type 0
 AreByProcess markers = AllPairs (λ (a b : MarkerView). a.me < b.me) markers
+
+-- the bit of each process that recorded something is set, of 64 bits
+abbrev pub AreRecordedBy : ℕ → List MarkerView → Type 0
+AreRecordedBy bits markers =
+    All (λ (marker : MarkerView). bit_at bits (marker.me % 64) ≡ 1) markers
 
 -- they are there for each two of n processes; what was recorded is of n processes, and may be left
 -- out where nothing was

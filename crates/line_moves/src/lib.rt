@@ -13,6 +13,7 @@
 
 mod counts;
 mod fates;
+mod kept_recorders;
 mod leanings;
 mod link_items;
 mod link_queues;

@@ -17,6 +17,7 @@ ghost use Rattle.line_moves.specs.Openings.{kept_channel, recorded_channel, reco
 ghost use Rattle.line_moves.specs.Openings.{AreByProcess, AreInTransit, AreMarkers};
 ghost use Rattle.line_moves.specs.Openings.{IsRecording};
 
+use crate::kept_recorders::KeptRecorders;
 use crate::recorders::Recorder;
 use line_colours::{SharedChannels, Turning};
 use line_names::{Choice, Line, MOST_PROCESSES, MsgName, ProcId};
@@ -30,9 +31,8 @@ use std::marker::Model;
 pub struct Round {
     number: u32,
     checks: Vec<u32>,
-    /// What processes recorded until their last marker came, for those that recorded something, by
-    /// process; none where links keep no order.
-    markers: Vec<Recorder>,
+    /// What processes recorded until their last marker came; nothing where links keep no order.
+    markers: KeptRecorders,
     /// What was in transit, where links keep no order.
     counted: Option<SharedChannels>,
 }
@@ -47,10 +47,10 @@ impl Model for Round {
     ghost view = { λ r. record {
       number = r.number;
       checks = r.checks.items;
-      channels = channels_kept r.counted (length r.checks.items) r.markers.items r.number;
+      channels = channels_kept r.counted (length r.checks.items) r.markers r.number;
     } };
 
-    ghost invariant = { λ r. AreChannels r.counted (length r.checks.items) r.markers.items };
+    ghost invariant = { λ r. AreChannels r.counted (length r.checks.items) r.markers };
 }
 
 impl Round {
@@ -73,7 +73,7 @@ impl Round {
         Round {
             number,
             checks,
-            markers: Vec::new(alloc),
+            markers: KeptRecorders::none(alloc),
             counted: Some(counted),
         }
     }
@@ -108,10 +108,10 @@ impl Round {
     /// sender's marker; in a round of colours, what was sent before the sender's check and not
     /// received before the receiver's.
     ///
-    /// In a round of markers it takes constant time for the receiver if something was on a channel
-    /// to each process up to this one, else it searches for it by halves. In a round of colours it
-    /// costs what `SharedChannels::between` does: mostly constant time, else two searches by
-    /// halves.
+    /// In a round of markers it takes constant time for most receivers that nothing was on a
+    /// channel to, and for those up to which something was on a channel to each process; else it
+    /// searches for the receiver by halves. In a round of colours it costs what
+    /// `SharedChannels::between` does: mostly constant time, else two searches by halves.
     pub fn channel(&self, from: ProcId, to: ProcId) -> &[MsgName]
         requires from { from < length self.now.checks }
         requires to { to < length self.now.checks }
@@ -120,7 +120,7 @@ impl Round {
     {
         match &self.counted {
             Some(channels) => channels.between(from, to),
-            None => recorded_at(&self.markers, self.number, from, to),
+            None => self.markers.names(self.number, from, to),
         }
     }
 
@@ -144,7 +144,7 @@ impl Round {
         Round {
             number,
             checks: turning.into_checks(),
-            markers,
+            markers: KeptRecorders::of(markers),
             counted: None,
         }
     }
@@ -166,7 +166,7 @@ impl Round {
         Round {
             number,
             checks: turning.into_checks(),
-            markers: Vec::new(alloc),
+            markers: KeptRecorders::none(alloc),
             counted: Some(channels),
         }
     }
@@ -232,43 +232,6 @@ impl Round {
             Some(check) => *check,
             None => 0,
         }
-    }
-}
-
-/// What process `to` recorded of the channel from process `from` in a round; nothing if it is not
-/// among these. It looks first where that one stands if each process before is among them.
-fn recorded_at(markers: &[Recorder], round: u32, from: ProcId, to: ProcId) -> &[MsgName]
-    requires from { All (λ (marker : MarkerView). from < marker.n) markers.now }
-    requires ascend { AreByProcess markers.now }
-    ensures { result.now ≡ kept_channel markers.now round from to }
-{
-    if let Some(own) = markers.get(to.get() as usize) {
-        if own.me().get() == to.get() {
-            return own.names(from, round);
-        }
-    }
-    recorded(markers, round, from, to)
-}
-
-/// What `recorded_at` answers. It searches for the process by halves.
-// What lists the channels of a round asks each of them: a call here keeps the search out of its
-// loop.
-#[inline(never)]
-fn recorded(markers: &[Recorder], round: u32, from: ProcId, to: ProcId) -> &[MsgName]
-    requires from { All (λ (marker : MarkerView). from < marker.n) markers.now }
-    requires ascend { AreByProcess markers.now }
-    ensures { result.now ≡ kept_channel markers.now round from to }
-{
-    let place = markers.partition_point(|marker| marker.me().get() < to.get());
-    match markers.get(place) {
-        Some(marker) => {
-            if marker.me().get() == to.get() {
-                marker.names(from, round)
-            } else {
-                &[]
-            }
-        }
-        None => &[],
     }
 }
 

@@ -38,4 +38,4 @@ returns-clause-channels c =
     subst (λ (round : ListedRound). round.channels
     ≡ channel_table (length round.checks) (channel_in round)) c.self.view_is
     (kept_again c.self.inside.counted
-    (length c.self.inside.checks.items) c.self.inside.markers.items c.self.inside.number)
+    (length c.self.inside.checks.items) c.self.inside.markers c.self.inside.number)

@@ -3,7 +3,7 @@ use Rattle.std.proofs.Common.{◌≡◌, ◌≢◌, ℕ, ltb, List, sym, ap, ◌
 use Rattle.std.proofs.lemmas.List.Sorted.{IsPartitionPoint-from_clause, IsPartitionedBy-ltb}
 use Rattle.line_marker.specs.Recording.{MarkerView}
 use Rattle.line_moves.proofs.KeptMarkers.{in_order, search_found, search_lost, search_past, told}
-use Rattle.line_moves.proofs.rounds.recorded.Goals as goal
+use Rattle.line_moves.proofs.kept_recorders.searched.Goals as goal
 
 pub returns-then-get : goal.returns-then-get
 returns-then-get c =
