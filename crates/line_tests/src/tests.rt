@@ -13,6 +13,7 @@ mod catalogues;
 mod claims;
 mod colours;
 mod lanes;
+mod lives;
 mod markers;
 mod runs;
 mod vectors;

@@ -1,28 +1,64 @@
 //! Steps in one run.
 use crate::tests::reads;
-use line_names::{Body, ProcId};
+use line_names::{Body, Choice, Line, ProcId};
 use line_tape::State;
 use line_world::{Answer, Mode, Reply, RunStopped, Step, StepError, World};
 use std::alloc::Global;
 use std::test::Fail;
 
-/// What an answer tells, a message by its number.
+/// What an answer tells. A message is told by its incarnation and its number.
 #[derive(Clone, Copy, Debug, PartialEq, Eq)]
-enum Told {
-    Sent(u32),
-    Took(u32),
+pub enum Told {
+    /// A message was sent.
+    Sent(u16, u32),
+    /// A message was taken.
+    Took(u16, u32),
+    /// A marker of this round was taken.
+    Marked(u32),
+    /// A check was taken.
     Checked(u32),
-    Refused,
+    /// A check was taken that begins a round: the check, and the round.
+    Begun(u32, u32),
+    /// A check is marked as damaged.
+    Damaged(u32),
+    /// A process is barred at this check.
+    Barred(u32),
+    /// Two processes go on from these choices.
+    Recovered(Choice, Choice),
+    /// The step was refused.
+    Refused(StepError),
+    /// Anything else.
     Else,
 }
 
-fn seen(answer: &Answer) -> Told {
+/// What is told of a recovery to a line.
+fn recovered(line: &Line) -> Told {
+    match line.choices() {
+        [first, second] => Told::Recovered(*first, *second),
+        _ => Told::Else,
+    }
+}
+
+/// What a reply tells.
+fn told_by(reply: &Reply) -> Told {
+    match reply {
+        Reply::Sent { message } => Told::Sent(message.inc, message.number),
+        Reply::Took { message, .. } => Told::Took(message.inc, message.number),
+        Reply::Marked { round, .. } => Told::Marked(*round),
+        Reply::Checked { check, .. } => Told::Checked(*check),
+        Reply::Begun { check, round, .. } => Told::Begun(*check, *round),
+        Reply::Damaged { check, .. } => Told::Damaged(*check),
+        Reply::Barred { check, .. } => Told::Barred(*check),
+        Reply::Recovered { plan, .. } => recovered(&plan.line),
+        _ => Told::Else,
+    }
+}
+
+/// What an answer tells.
+pub fn seen(answer: &Answer) -> Told {
     match answer {
-        Answer::Done(Reply::Sent { message }) => Told::Sent(message.number),
-        Answer::Done(Reply::Took { message, .. }) => Told::Took(message.number),
-        Answer::Done(Reply::Checked { check, .. }) => Told::Checked(*check),
-        Answer::Done(_) => Told::Else,
-        Answer::Refused(_) => Told::Refused,
+        Answer::Done(reply) => told_by(reply),
+        Answer::Refused(why) => Told::Refused(*why),
     }
 }
 
@@ -69,8 +105,8 @@ fn answers_of(alloc: Global, n: u32, steps: &[Step]) -> Result<Answered, Fail> {
 fn a_run_answers_each_step(rt: HostRuntime) -> Result<(), Fail> {
     let steps = a_message_and_a_check(rt.alloc())?;
     let all = [
-        Some(Told::Sent(0)),
-        Some(Told::Took(0)),
+        Some(Told::Sent(0, 0)),
+        Some(Told::Took(0, 0)),
         Some(Told::Checked(1)),
     ];
     assert!(rt; answers_of(rt.alloc(), 2, &steps)? == (3, all));
@@ -90,8 +126,8 @@ fn a_run_goes_on_after_a_refusal(rt: HostRuntime) -> Result<(), Fail> {
     let steps = a_refusal_in_the_middle(rt.alloc())?;
     let all = [
         Some(Told::Checked(1)),
-        Some(Told::Refused),
-        Some(Told::Else),
+        Some(Told::Refused(StepError::InitialDamage)),
+        Some(Told::Damaged(1)),
     ];
     assert!(rt; answers_of(rt.alloc(), 1, &steps)? == (3, all));
     Ok(())
