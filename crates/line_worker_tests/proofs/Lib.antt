@@ -1,1 +1,2 @@
 mod RotateLemmas
+mod TakingLemmas

@@ -5,12 +5,12 @@ use crate::tests::drills::gates::{Fixed, Meeting};
 use crate::tests::drills::scripts::{
     both_waiting, check, crowded, idle, receive, ring, second, send, waiting,
 };
+use crate::tests::reads;
 use line_drills::{DrillError, DrillWhy, Order, drill};
 use line_names::ProcId;
 use line_posts::{Gathered, MOST_WORKERS};
 use line_tape::{EventRef, Tape};
 use std::alloc::{AllocError, Global};
-use std::fmt::Display;
 use std::sync::Wait;
 use std::thread::Threads;
 
@@ -272,14 +272,6 @@ fn counts_of_scripts(rt: HostRuntime) {
 fn capacities(rt: HostRuntime) {
     assert!(rt; refuses(&rt, rt.alloc(), 1, 0, DrillWhy::BadCapacity));
     assert!(rt; refuses(&rt, rt.alloc(), 1, 1_025, DrillWhy::BadCapacity));
-}
-
-/// Whether a value reads so.
-fn reads<D: Display + Drop>(alloc: Global, value: D, words: &str) -> bool {
-    match format!(in alloc; "{value}") {
-        Ok(text) => text.as_str() == words,
-        Err(_) => false,
-    }
 }
 
 #[test]

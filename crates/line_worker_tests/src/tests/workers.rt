@@ -1,4 +1,5 @@
 //! Workers step by step on one thread, and in threads of their own.
+mod forgets;
 mod gatherings;
 mod lines;
 mod posts;

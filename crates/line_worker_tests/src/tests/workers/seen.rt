@@ -2,6 +2,7 @@
 use line_names::{Choice, MsgName, ProcId};
 use line_plan::{Plan, PlanError};
 use line_posts::{Gathered, ReceiveWhy, Received, ReportError, Reported, SendRefused, SendWhy};
+use line_tape::History;
 
 /// Whether it is the first message of process 0.
 pub fn is_first(name: &MsgName) -> bool {
@@ -94,15 +95,20 @@ pub fn is_whole(gathered: &Gathered) -> bool {
     is_planned(&gathered.plan(), &[Choice::Now, Choice::Now], 0, 1, 0)
 }
 
-/// Whether the tape has so many events, sends and checks.
-pub fn is_tape(gathered: &Gathered, p: u32, events: u32, sends: u32, checks: u32) -> bool {
-    match ProcId::try_new(p, gathered.history().n()) {
+/// Whether a tape of a history has so many events, sends and checks.
+pub fn has_tape(history: &History, p: u32, events: u32, sends: u32, checks: u32) -> bool {
+    match ProcId::try_new(p, history.n()) {
         Ok(p) => {
-            let tape = gathered.history().tape(p);
+            let tape = history.tape(p);
             tape.len() == events && tape.sends() == sends && tape.checks() == checks
         }
         Err(_) => false,
     }
+}
+
+/// Whether the tape has so many events, sends and checks.
+pub fn is_tape(gathered: &Gathered, p: u32, events: u32, sends: u32, checks: u32) -> bool {
+    has_tape(gathered.history(), p, events, sends, checks)
 }
 
 /// Whether each of `n` has so many checks.
