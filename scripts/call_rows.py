@@ -241,6 +241,20 @@ ROWS = [
         "begin,0,01 / begin,0,02 / begin,1,01 / receive,1,0,02 / receive,0,1, / report,0"
         " / report,1 / take,1 / take,9 / live / gather,0,1 / damage,1,1 / plan / restart"
         " / begin,0,04 / receive,1,0,05 / gather / plan"),
+    fleet("a collector lets go, and so does the next one", 2, 4,
+        "forget_live / send,0,1,61 / check,0,01 / report,0 / receive,1,0, / check,1,02 / check,1,03"
+        " / report,1 / take,9 / forget_live / live / send,0,1,62 / check,0,04 / send,0,1,63"
+        " / report,0 / receive,1,0, / receive,1,0, / check,1,05 / report,1 / take,9 / live"
+        " / forget_live / live / send,1,0,64 / report,1 / gather,0 / plan / restart / live"
+        " / forget_live / receive,1,0, / send,0,1,65 / check,0,06 / report,0 / report,1 / take,9"
+        " / forget_live / live / gather / plan"),
+    fleet("three workers let go after a round", 3, 4,
+        "begin,0,01 / send,0,1,61 / receive,1,0,02 / receive,1,0, / receive,2,0,03 / receive,0,1,"
+        " / receive,0,2, / receive,1,2, / receive,2,1, / send,2,0,62 / report,0 / report,1"
+        " / report,2 / take,20 / forget_live / live / receive,0,2, / check,0,04 / begin,0,05"
+        " / receive,1,0,06 / report,0 / report,1 / take,20 / live / forget_live / gather,1"
+        " / damage,0,2 / plan / restart / receive,0,2, / forget_live / report,0 / take,9"
+        " / gather,2 / plan"),
     fleet("three workers and many reports", 3, 4,
         "send,0,1,61 / send,1,2,62 / send,2,0,63 / receive,0,2, / receive,1,0, / receive,2,1,"
         " / check,0,01 / check,1,02 / check,2,03 / report,0 / report,1 / report,2 / take,20"
@@ -293,14 +307,16 @@ def made_worlds(cases: int, seed: int) -> Iterator[Row]:
 def some_work(chance: random.Random, n: int) -> str:
     """A call of a worker or of the collector."""
     p, q, byte = chance.randrange(n), chance.randrange(n), chance.randrange(256)
-    kind = chance.choices(
-        ["send", "receive", "check", "begin", "report", "take", "live"], [30, 40, 8, 6, 8, 6, 2]
-    )[0]
+    weights = {
+        "send": 30, "receive": 40, "check": 8, "begin": 6, "report": 8, "take": 6, "live": 2,
+        "forget_live": 2,
+    }
+    kind = chance.choices(list(weights), list(weights.values()))[0]
     if kind in ("send", "receive"):
         return f"{kind},{p},{(p + 1 + q % max(n - 1, 1)) % n},{byte:02x}"
     if kind in ("check", "begin"):
         return f"{kind},{p if kind == 'check' else 0},{byte:02x}"
-    return {"report": f"report,{p}", "take": f"take,{chance.randrange(12)}", "live": "live"}[kind]
+    return {"report": f"report,{p}", "take": f"take,{chance.randrange(12)}"}.get(kind, kind)
 
 
 def made_fleets(cases: int, seed: int) -> Iterator[Row]:
