@@ -153,7 +153,8 @@ def items(crate: str) -> dict[str, Item]:
     # A type's own file comes before those of its folder, which add methods.
     paths = (ROOT / "crates" / crate / "src").rglob("*.rt")
     for path in sorted(paths, key=lambda it: it.with_suffix("").parts):
-        lines = path.read_text(encoding="utf-8").split("\n") if "tests" not in path.parts else []
+        is_test = "tests" in path.relative_to(ROOT).parts
+        lines = [] if is_test else path.read_text(encoding="utf-8").split("\n")
         for at, line in enumerate(lines):
             if item := item_at(lines, at):
                 found.setdefault(*item)
