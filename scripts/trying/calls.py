@@ -8,7 +8,7 @@ histories and their marks, on what a process records of rounds, on catalogues, t
 is left of a catalogue that is cut, on worlds with links of either kind and on machines that let go,
 step by step and in one run, on what processes report, and on workers and their collector, from the
 fleet to the next generation. Before each call it tells what there is to see, as digests: history,
-marks, links, rounds, incarnations, and the rows of a catalogue, the floor of a machine that lets go
+marks, links, rounds, incarnations, the rows of a catalogue, the floor of what lets something go,
 or what each worker has. Where a call is out of memory, it tells that again and makes the same call
 again.
 
