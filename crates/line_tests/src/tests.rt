@@ -15,6 +15,7 @@ mod colours;
 mod lanes;
 mod lives;
 mod markers;
+mod openings;
 mod runs;
 mod vectors;
 
