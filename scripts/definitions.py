@@ -23,8 +23,7 @@ Scope = dict[str, Name]
 
 # The lower halves of the machine and of the texts, and the words of the program.
 PARTS = {
-    "line_colours", "line_steps", "line_moves", "line_fields", "line_claims", "line_scripts",
-    "line_answers", "line_words",
+    "line_rounds", "line_moves", "line_fields", "line_claims", "line_scripts", "line_words",
 }
 # Crates of tests and of examples.
 EXAMPLES = {

@@ -119,7 +119,7 @@ def faults_of_errors() -> Iterator[str]:
     for it in refusals():
         if it.error in SHOWN and f'{it.number} => "{it.name}"' not in code:
             yield f"name_of of line_claims lacks {it.number} {it.name}, which {it.error} has"
-    drills = read(ROOT / "crates" / "line_drills" / "src" / "refusals.rt")
+    drills = read(ROOT / "crates" / "line_workers" / "src" / "refusals.rt")
     yield from (f"name of DrillWhy lacks {it.name}" for it in refusals()
                 if it.error == "DrillWhy" and f'DrillWhy::{it.name} => "{it.name}"' not in drills)
 

@@ -56,7 +56,7 @@ import workspace
 from call_rows import ROWS, RUNS, Row, made_fleets, made_worlds, runs_of
 
 STANDS_ON = """
-    line_names line_tape line_vectors line_marker line_catalogue line_plan line_moves line_world
+    line_names line_tape line_vectors line_rounds line_catalogue line_plan line_moves line_world
     line_live line_posts line_collect
 """.split()
 # The request for memory that is refused, counted from 1. No row asks as often.

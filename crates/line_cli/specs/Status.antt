@@ -1,7 +1,7 @@
 -- How the program ends.
 use Rattle.std.specs.Prelude.{ℕ, ◌==◌, ◌||◌, if◌then◌else◌}
-use Rattle.line_conversations.specs.declared.outcomes.Outcome.{Outcome}
-use Rattle.line_conversations.specs.declared.outcomes.Outcome.TheVariants.{Done, Faulted, Refused}
+use Rattle.line_text.specs.declared.outcomes.Outcome.{Outcome}
+use Rattle.line_text.specs.declared.outcomes.Outcome.TheVariants.{Done, Faulted, Refused}
 
 -- the status that goes with the worst that a service answered
 abbrev pub status_of_service : Outcome → ℕ

@@ -12,12 +12,11 @@ ghost use Rattle.line_cli.specs.Status.{status_of, status_of_service};
 mod statuses;
 
 use crate::statuses::{status_of_drill, status_of_fault};
-use line_conversations::{Outcome, ServeError};
 use line_devices::{ReadSource, Sink, WriteSink, put_all};
-use line_drills::drill_text;
 use line_posts::MOST_WORKERS;
-use line_text::{TextFault, check_text, run_text};
+use line_text::{Outcome, ServeError, TextFault, check_text, run_text};
 use line_words::{Job, WordsFault, command_of, fault_of_reading, line_with_file};
+use line_workers::drill_text;
 use std::alloc::{AllocError, Global};
 use std::process::ExitCode;
 use std::rt::Files;

@@ -2,12 +2,12 @@
 use Rattle.std.proofs.Common.{◌≡◌, ℕ, List, [], ◌∷◌, ◌++◌, append_assoc, length, Option, Bool, refl}
 use Rattle.std.proofs.Common.{sym, subst, ap, inl, inr}
 use Rattle.std.specs.Prelude.{Ok, Err, IfErr, IfOk, OnOk, Result, Some}
-use Rattle.line_answers.specs.Answers.{IsEverybody}
-use Rattle.line_conversations.specs.declared.outcomes.Outcome.{Outcome}
-use Rattle.line_conversations.specs.declared.stops.Stop.{Stop}
-use Rattle.line_conversations.specs.declared.stops.Stop.TheVariants as stops
-use Rattle.line_conversations.specs.Answers.{AnswersOne, BlamesSink, StopsOne}
-use Rattle.line_conversations.proofs.HeardLemmas.{one_front}
+use Rattle.line_text.specs.Answers.{IsEverybody}
+use Rattle.line_text.specs.declared.outcomes.Outcome.{Outcome}
+use Rattle.line_text.specs.declared.stops.Stop.{Stop}
+use Rattle.line_text.specs.declared.stops.Stop.TheVariants as stops
+use Rattle.line_text.specs.Answerers.{AnswersOne, BlamesSink, StopsOne}
+use Rattle.line_text.proofs.HeardLemmas.{one_front}
 use Rattle.line_devices.specs.declared.devices.DeviceFault.{DeviceFault}
 use Rattle.line_devices.specs.Devices.{Outputs, PutsButEnd, PutsFront}
 use Rattle.line_devices.proofs.PutLemmas.{front_of_front}

@@ -1,7 +1,7 @@
 -- What one who lets go answers, the collection that keeps everything may answer.
 use Rattle.std.proofs.Common.{◌≡◌, ℕ, Bool, List, [], ◌∷◌, length, refl, sym, ap, ◌∙◌, subst}
 use Rattle.std.specs.Prelude.{None, codes}
-use Rattle.line_answers.specs.Answers.{IsEverybody}
+use Rattle.line_text.specs.Answers.{IsEverybody}
 use Rattle.line_cuts.specs.Cuts.{whole_line}
 use Rattle.line_cuts.proofs.LatestCuts.{length_history}
 use Rattle.line_fields.specs.Records.{Record}

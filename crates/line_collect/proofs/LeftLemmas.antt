@@ -9,7 +9,7 @@ use Rattle.std.proofs.lemmas.List.{length-map, length-replicate}
 use Rattle.std.proofs.lemmas.List.Elements.{All-nil}
 use Rattle.std.proofs.lemmas.List.FromFn.{length-map-range_with_len}
 use Rattle.line_catalogue.proofs.RestartLemmas.{Agrees-restarted}
-use Rattle.line_answers.specs.Replies.{process_record}
+use Rattle.line_text.specs.Replies.{process_record}
 use Rattle.line_fields.specs.Records.{Record}
 use Rattle.line_collect.specs.Alongside.{IsLeftOfAll}
 use Rattle.line_collect.specs.Answers.{going_on_record, plan_records, plan_records_with}
@@ -49,7 +49,7 @@ use Rattle.line_names.specs.declared.choices.Choice.TheVariants.{Check as AtChec
 use Rattle.line_names.specs.Lines.{choice_at, IsNowhereLater}
 use Rattle.line_names.specs.Order.{IsNoLater}
 use Rattle.line_plan.specs.declared.plans.Plan.{Plan}
-use Rattle.line_steps.specs.declared.modes.Mode.TheVariants.{Fifo}
+use Rattle.line_tape.specs.declared.modes.Mode.TheVariants.{Fifo}
 use Rattle.line_tape.specs.Chain.{IsChain}
 use Rattle.line_tape.specs.declared.events.Event.{Event}
 use Rattle.line_tape.specs.History.{Process, incarnation_at, process_at, tape_at}

@@ -41,7 +41,7 @@ use Rattle.line_moves.specs.Moves.{next_check}
 use Rattle.line_names.specs.declared.choices.Choice.TheVariants.{Check as AtCheck}
 use Rattle.line_names.specs.declared.limits.TheConstants.{MOST_BODY}
 use Rattle.line_names.specs.declared.messages.MsgName.{MsgName}
-use Rattle.line_answers.specs.Replies.{checked_record, sent_record}
+use Rattle.line_text.specs.Replies.{checked_record, sent_record}
 use Rattle.line_tape.specs.declared.events.Event.{Event}
 use Rattle.line_tape.specs.declared.events.Event.TheVariants as events
 use Rattle.line_tape.specs.declared.limits.TheConstants.{MOST_STATE}

@@ -2,10 +2,10 @@
 use Rattle.std.specs.Prelude.{◌≡◌, ◌≢◌, ℕ, Bool, List, [], ◌∷◌, ◌++◌}
 use Rattle.std.specs.Prelude.{length, map, codes, decimal, None, Result, Ok, Err}
 use Rattle.std.specs.List.{range_with_len}
-use Rattle.line_answers.specs.Answers.{IsEverybody}
-use Rattle.line_answers.specs.Replies.{barred_record, checked_record, damaged_record, pass_records}
-use Rattle.line_answers.specs.Replies.{process_record, recovered_record, replay_records}
-use Rattle.line_answers.specs.Replies.{refusal_record, sent_record, took_record}
+use Rattle.line_text.specs.Answers.{IsEverybody}
+use Rattle.line_text.specs.Replies.{barred_record, checked_record, damaged_record, pass_records}
+use Rattle.line_text.specs.Replies.{process_record, recovered_record, replay_records}
+use Rattle.line_text.specs.Replies.{refusal_record, sent_record, took_record}
 use Rattle.line_claims.specs.Claims.{Claim}
 use Rattle.line_claims.specs.Numbers.{none_text}
 use Rattle.line_claims.specs.Records.{check_records, history_records, in_order}

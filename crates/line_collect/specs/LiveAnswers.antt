@@ -2,9 +2,9 @@
 use Rattle.std.specs.Prelude.{◌≡◌, ◌≢◌, ◌⊎◌, ℕ, Bool, List, [], ◌∷◌, length, map, codes}
 use Rattle.std.specs.Prelude.{Option, None, Some, Result, Ok, Err}
 use Rattle.std.specs.List.{range_with_len}
-use Rattle.line_answers.specs.Answers.{IsEverybody, claimed_records, floors_above, floors_before}
-use Rattle.line_answers.specs.Answers.{forget_code, forgot_record, shown_records}
-use Rattle.line_answers.specs.Replies.{process_record}
+use Rattle.line_text.specs.Answers.{IsEverybody, claimed_records, floors_above, floors_before}
+use Rattle.line_text.specs.Answers.{forget_code, forgot_record, shown_records}
+use Rattle.line_text.specs.Replies.{process_record}
 use Rattle.line_claims.specs.Records.{floors_records, in_order, version_of}
 use Rattle.line_cuts.specs.Cuts.{whole_choice}
 use Rattle.line_fields.specs.Records.{Record}

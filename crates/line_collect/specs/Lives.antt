@@ -10,7 +10,7 @@ use Rattle.line_tape.specs.Spent.{next_name}
 use Rattle.line_tape.specs.Survival.{is_barred, is_damaged, IsLatest}
 use Rattle.line_tape.specs.Views.{with_bar, with_mark}
 use Rattle.line_names.specs.declared.choices.Choice.{Choice}
-use Rattle.line_answers.specs.Answers.{IsEverybody}
+use Rattle.line_text.specs.Answers.{IsEverybody}
 use Rattle.line_cuts.specs.Cuts.{Floor, FloorSurvives, IsFloor, cut_history, cut_marks, cut_name}
 use Rattle.line_cuts.specs.Cuts.{floor_check, is_left, lost_checks, lost_sends, whole_floor}
 use Rattle.line_cuts.specs.Cuts.{whole_name}

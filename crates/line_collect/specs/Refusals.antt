@@ -1,7 +1,7 @@
 -- What refuses a report: the first cause that holds, in the order of docs/REPORTS.md.
 use Rattle.std.specs.Prelude.{◌≡◌, ◌⊎◌, ℕ, Bool, not, ◌==◌, nat_lt, if◌then◌else◌, List, []}
 use Rattle.std.specs.Prelude.{◌∷◌, length, slice_index_or, Option, Some, None}
-use Rattle.line_answers.specs.Answers.{IsEverybody}
+use Rattle.line_text.specs.Answers.{IsEverybody}
 use Rattle.line_names.specs.declared.limits.TheConstants.{MOST_BODY}
 use Rattle.line_names.specs.declared.messages.MsgName.{MsgName}
 use Rattle.line_collect.specs.declared.reports.Report.{Report}

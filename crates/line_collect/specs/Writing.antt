@@ -2,9 +2,9 @@
 -- caller reads needs this.
 use Rattle.std.specs.Prelude.{◌≡◌, ◌≢◌, ℕ, nat_lt, List, [], ◌∷◌, ◌++◌, length, Option, Result}
 use Rattle.std.specs.Prelude.{Ok, Err}
-use Rattle.line_conversations.specs.declared.outcomes.Outcome.{Outcome}
-use Rattle.line_conversations.specs.declared.stops.Stop.{Stop}
-use Rattle.line_conversations.specs.declared.stops.Stop.TheVariants as stops
+use Rattle.line_text.specs.declared.outcomes.Outcome.{Outcome}
+use Rattle.line_text.specs.declared.stops.Stop.{Stop}
+use Rattle.line_text.specs.declared.stops.Stop.TheVariants as stops
 use Rattle.line_devices.specs.declared.devices.DeviceFault.{DeviceFault}
 use Rattle.line_devices.specs.Devices.{PutsButEnd, PutsFront, one_more}
 use Rattle.line_fields.specs.declared.faults.ReadError.TheVariants as read_errors

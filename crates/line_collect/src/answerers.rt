@@ -2,10 +2,10 @@
 
 ghost use Rattle.std.specs.Prelude.{◌≡◌, ◌+◌, ◌-◌, ◌^◌, ◌≤◌, ◌⊎◌, ℕ, List, None, Some, Ok, Err};
 ghost use Rattle.std.specs.Prelude.{IfErr, IfOk, OnOk};
-ghost use Rattle.line_conversations.specs.declared.faults.ServeError.TheVariants as errors;
-ghost use Rattle.line_conversations.specs.Answers.{AnswersOne, BlamesSink, StopsOne};
-ghost use Rattle.line_conversations.specs.Turns.{GivesText};
-ghost use Rattle.line_conversations.specs.Turns as spec;
+ghost use Rattle.line_text.specs.declared.faults.ServeError.TheVariants as errors;
+ghost use Rattle.line_text.specs.Answerers.{AnswersOne, BlamesSink, StopsOne};
+ghost use Rattle.line_text.specs.Turns.{GivesText};
+ghost use Rattle.line_text.specs.Turns as spec;
 ghost use Rattle.line_devices.specs.Devices.{one_more};
 ghost use Rattle.line_collect.specs.Collecting.{Began, Faulted, HearsReport, collect_rules};
 
@@ -13,10 +13,10 @@ use crate::answering::answer_report;
 use crate::live_collections::LiveCollection;
 use crate::readers::ReportReader;
 use crate::reports::reports_of;
-use line_conversations::{Answerer, Outcome, ServeError, Stop, converse};
 use line_devices::{Sink, Source};
 use line_fields::{FieldRow, ReadError, RecordWriter};
 use line_tape::CountError;
+use line_text::{Answerer, Outcome, ServeError, Stop, converse};
 use std::alloc::Global;
 use std::marker::Model;
 

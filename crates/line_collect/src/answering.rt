@@ -17,16 +17,16 @@ use crate::plan_records::put_plan_records;
 use crate::refusals::CollectError;
 use crate::reports::ReportRef;
 use crate::tellings::Told;
-use line_answers::{
-    everybody, put_left_claim, put_left_history, put_let_go, put_refusal, refusal_number,
-};
 use line_claims::{ClaimRef, numbers_of};
-use line_conversations::{Outcome, Stop};
 use line_devices::{DeviceFault, Sink};
 use line_fields::{Field, ReadError, RecordWriter, put_ending, put_numbers};
 use line_live::ForgetError;
 use line_names::{MsgName, ProcSet};
 use line_plan::Plan;
+use line_text::{
+    Outcome, Stop, everybody, put_left_claim, put_left_history, put_let_go, put_refusal,
+    refusal_number,
+};
 use std::alloc::Global;
 
 /// The outcome of an answer, if all of it was written.

@@ -21,12 +21,12 @@ ghost use Rattle.line_collect.specs.Writing.{refusal_of_event};
 
 use crate::refusals::CollectError;
 use crate::tellings::Told;
-use line_answers::everybody;
 use line_catalogue::{AddError, Catalogue, DamageError};
 use line_cuts::{OwnedFloor, cut_catalogue, floor_at};
 use line_names::{Body, Line, MOST_PROCESSES, MsgName, ProcId, ProcSet};
 use line_plan::{Plan, PlanError};
 use line_tape::{BarError, CountError, Event, History, MOST_EVENTS, MOST_STATE, Marks, State};
+use line_text::everybody;
 use std::alloc::{AllocError, Global};
 use std::marker::Model;
 

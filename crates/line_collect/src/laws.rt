@@ -2,8 +2,8 @@
 
 ghost use Rattle.std.specs.Prelude.{◌≡◌, ◌≢◌, ◌<◌, ◌↔◌, ◌++◌, ℕ, Bool, List, Option, Result};
 ghost use Rattle.std.specs.Prelude.{length};
-ghost use Rattle.line_answers.specs.Answers.{IsEverybody};
-ghost use Rattle.line_conversations.specs.Conversations.{Serves, ServesBoth, Standing};
+ghost use Rattle.line_text.specs.Answers.{IsEverybody};
+ghost use Rattle.line_text.specs.Conversations.{Serves, ServesBoth, Standing};
 ghost use Rattle.line_fields.specs.declared.faults.Fault.{Fault};
 ghost use Rattle.line_fields.specs.declared.faults.ReadError.{ReadError};
 ghost use Rattle.line_fields.specs.Records.{Record};

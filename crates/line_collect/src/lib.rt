@@ -26,7 +26,7 @@ pub use laws::{
     histories_follow_each_process, live_lines_stay_consistent, recovered_lines_stay_consistent,
     reports_in_pieces_are_answered_alike,
 };
-pub use line_conversations::{MOST_LINE, Outcome, ServeError};
+pub use line_text::{MOST_LINE, Outcome, ServeError};
 pub use live_collections::LiveCollection;
 pub use live_laws::{
     forgets_leave_what_is_left, live_answers_are_of_all, live_collections_answer_as_all,

@@ -9,11 +9,11 @@ ghost use Rattle.line_tape.specs.Line.{IsLine};
 ghost use Rattle.line_tape.specs.Restart.{HaveFurther};
 
 use crate::live_collections::LiveCollection;
-use line_answers::{put_certificate, put_replays};
 use line_devices::{DeviceFault, Sink};
 use line_fields::{Field, RecordWriter, put_ending, put_fields, put_numbers};
 use line_names::{Choice, Line, ProcId};
 use line_plan::Plan;
+use line_text::{put_certificate, put_replays};
 
 // Writes `line,P,CHOICE,INC,HEX`: where a process would go on.
 fn put_going_on<K: Sink>(

@@ -33,8 +33,8 @@ use Rattle.line_laws.proofs.OrderLemmas.{receipt_in, sent_is}
 use Rattle.line_laws.proofs.RoundLemmas.{any_take, is_marker}
 use Rattle.line_laws.proofs.SentLemmas.{messages, item_message, In, Ascends, in_received}
 use Rattle.line_laws.proofs.SentLemmas.{sent_ascends, sent_from}
-use Rattle.line_steps.specs.declared.modes.Mode.{Mode}
-use Rattle.line_steps.specs.declared.modes.Mode.TheVariants.{Fifo}
+use Rattle.line_tape.specs.declared.modes.Mode.{Mode}
+use Rattle.line_tape.specs.declared.modes.Mode.TheVariants.{Fifo}
 use Rattle.line_moves.specs.Listed.{is_begun, is_completed}
 use Rattle.line_moves.specs.Modes.{IsFitIn}
 use Rattle.line_world.specs.Machine.{Machine, is_open}

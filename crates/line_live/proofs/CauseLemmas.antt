@@ -1,7 +1,7 @@
 -- First causes of a refusal that differ in whether a tape is full, the last one of each list.
 use Rattle.std.proofs.Common.{◌≡◌, Bool, true, false, cond, List, [], ◌∷◌, ◌++◌, Some, None, refl}
 use Rattle.std.proofs.Common.{sym, subst, ◌⊎◌, inl, inr}
-use Rattle.line_steps.specs.declared.steps.Step.{Step}
+use Rattle.line_tape.specs.declared.steps.Step.{Step}
 use Rattle.line_world.specs.declared.replies.StepError.{StepError}
 use Rattle.line_world.specs.declared.replies.StepError.TheVariants.{TapeFull}
 use Rattle.line_world.specs.Machine.{Machine}

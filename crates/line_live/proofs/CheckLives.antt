@@ -17,8 +17,8 @@ use Rattle.line_tape.specs.Front.{HasChoice}
 use Rattle.line_tape.specs.History.{Process, tape_at, with_event}
 use Rattle.line_tape.specs.Rounds.{has_check_of, is_completed_fifo}
 use Rattle.line_tape.specs.Views.{MarksView}
-use Rattle.line_steps.specs.declared.modes.Mode.TheVariants.{Fifo}
-use Rattle.line_steps.specs.declared.steps.Step.TheVariants.{Check, Begin, Turn}
+use Rattle.line_tape.specs.declared.modes.Mode.TheVariants.{Fifo}
+use Rattle.line_tape.specs.declared.steps.Step.TheVariants.{Check, Begin, Turn}
 use Rattle.line_moves.specs.Listed.{ListedRound, is_begun, newly_listed}
 use Rattle.line_moves.specs.Moves.{next_check}
 use Rattle.line_world.specs.declared.replies.Answer.{Answer}

@@ -23,9 +23,9 @@ use Rattle.line_laws.proofs.CompletionLemmas.{contains_round, marker_checked}
 use Rattle.line_laws.proofs.GrowthLemmas.{has_check_push}
 use Rattle.line_laws.proofs.NextLemmas.{link_after}
 use Rattle.line_laws.proofs.OrderLemmas.{ordered_fit}
-use Rattle.line_steps.specs.declared.modes.Mode.TheVariants.{Fifo}
-use Rattle.line_steps.specs.declared.steps.Step.{Step}
-use Rattle.line_steps.specs.declared.steps.Step.TheVariants.{Deliver}
+use Rattle.line_tape.specs.declared.modes.Mode.TheVariants.{Fifo}
+use Rattle.line_tape.specs.declared.steps.Step.{Step}
+use Rattle.line_tape.specs.declared.steps.Step.TheVariants.{Deliver}
 use Rattle.line_moves.specs.Fates.{events_taken, is_forced, marker_events}
 use Rattle.line_moves.specs.Listed.{is_begun, ListedRound, newly_listed}
 use Rattle.line_moves.specs.Worlds.{IsItemOf}

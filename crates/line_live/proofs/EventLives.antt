@@ -30,7 +30,7 @@ use Rattle.line_laws.proofs.NextLemmas.{got_first, link_after, stays_fit}
 use Rattle.line_laws.proofs.OrderLemmas.{ordered_fit}
 use Rattle.line_laws.proofs.RoundLines.{checks-append}
 use Rattle.line_laws.proofs.SnapshotLemmas.{event_fronts}
-use Rattle.line_steps.specs.declared.modes.Mode.TheVariants.{Fifo}
+use Rattle.line_tape.specs.declared.modes.Mode.TheVariants.{Fifo}
 use Rattle.line_moves.specs.Listed.{ListedRound, is_begun, newly_listed}
 use Rattle.line_world.specs.Machine.{Machine}
 use Rattle.line_world.specs.Refusals.{is_stranger, is_full}

@@ -36,11 +36,11 @@ use Rattle.line_tape.specs.Views.{MarksView, bar_at}
 use Rattle.line_tape.proofs.RowLemmas.{checks_le}
 use Rattle.line_laws.proofs.OrderLemmas.{ordered_fit}
 use Rattle.line_plan.specs.declared.plans.Plan.{Plan}
-use Rattle.line_steps.specs.declared.modes.Mode.{Mode}
-use Rattle.line_steps.specs.declared.modes.Mode.TheVariants.{Fifo}
-use Rattle.line_steps.specs.declared.steps.Step.{Step}
-use Rattle.line_steps.specs.declared.steps.Step.TheVariants.{Send, Deliver, Check, Begin, Turn}
-use Rattle.line_steps.specs.declared.steps.Step.TheVariants.{Damage, Bar, Recover}
+use Rattle.line_tape.specs.declared.modes.Mode.{Mode}
+use Rattle.line_tape.specs.declared.modes.Mode.TheVariants.{Fifo}
+use Rattle.line_tape.specs.declared.steps.Step.{Step}
+use Rattle.line_tape.specs.declared.steps.Step.TheVariants.{Send, Deliver, Check, Begin, Turn}
+use Rattle.line_tape.specs.declared.steps.Step.TheVariants.{Damage, Bar, Recover}
 use Rattle.line_moves.specs.declared.fates.Fate.{Fate}
 use Rattle.line_moves.specs.declared.fates.Fate.TheVariants.{Taken, Stale as IsStale}
 use Rattle.line_moves.specs.declared.fates.Fate.TheVariants.{Repeated as IsRepeated}

@@ -14,8 +14,8 @@ use Rattle.line_tape.specs.Survival.{survives}
 use Rattle.line_tape.specs.Views.{MarksView}
 use Rattle.line_laws.proofs.RoundLines.{in_range}
 use Rattle.line_moves.specs.Listed.{ListedRound, check_in}
-use Rattle.line_steps.specs.declared.modes.Mode.{Mode}
-use Rattle.line_steps.specs.declared.modes.Mode.TheVariants.{Fifo, Unordered}
+use Rattle.line_tape.specs.declared.modes.Mode.{Mode}
+use Rattle.line_tape.specs.declared.modes.Mode.TheVariants.{Fifo, Unordered}
 use Rattle.line_world.specs.Machine.{Machine, is_open}
 use Rattle.line_world.specs.Sound.{IsSound}
 use Rattle.line_cuts.specs.Cuts.{Floor, FloorSurvives}

@@ -27,9 +27,9 @@ use Rattle.line_tape.specs.Views.{MarksView, bar_at, damaged_at, with_bar, with_
 use Rattle.line_tape.proofs.ChoiceLemmas.{IsNoLater-refl, survives_within}
 use Rattle.line_tape.proofs.EventLemmas.{tape_grows}
 use Rattle.line_laws.proofs.RoundLines.{checks-append}
-use Rattle.line_steps.specs.declared.steps.Step.{Step}
-use Rattle.line_steps.specs.declared.steps.Step.TheVariants.{Send, Deliver, Check, Begin, Turn}
-use Rattle.line_steps.specs.declared.steps.Step.TheVariants.{Damage, Bar, Recover}
+use Rattle.line_tape.specs.declared.steps.Step.{Step}
+use Rattle.line_tape.specs.declared.steps.Step.TheVariants.{Send, Deliver, Check, Begin, Turn}
+use Rattle.line_tape.specs.declared.steps.Step.TheVariants.{Damage, Bar, Recover}
 use Rattle.line_moves.specs.Fates.{events_taken}
 use Rattle.line_moves.specs.Moves.{with_events}
 use Rattle.line_moves.proofs.LinkLemmas.{length-with_event}

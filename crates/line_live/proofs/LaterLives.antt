@@ -26,8 +26,8 @@ use Rattle.line_laws.proofs.NextLemmas.{check_in as round_in}
 use Rattle.line_laws.proofs.OrderLemmas.{ordered_fit}
 use Rattle.line_laws.proofs.RoundLemmas.{any_take}
 use Rattle.line_laws.proofs.RoundLines.{in_range}
-use Rattle.line_steps.specs.declared.modes.Mode.{Mode}
-use Rattle.line_steps.specs.declared.modes.Mode.TheVariants.{Fifo}
+use Rattle.line_tape.specs.declared.modes.Mode.{Mode}
+use Rattle.line_tape.specs.declared.modes.Mode.TheVariants.{Fifo}
 use Rattle.line_moves.specs.Listed.{ListedRound, channel_in, check_in, IsSnapshotOf}
 use Rattle.line_moves.specs.Modes.{IsFitIn}
 use Rattle.line_moves.specs.Worlds.{AreNumbered}

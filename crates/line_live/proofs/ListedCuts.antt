@@ -13,9 +13,9 @@ use Rattle.line_names.specs.declared.messages.MsgName.{MsgName}
 use Rattle.line_tape.specs.History.{Process}
 use Rattle.line_tape.specs.Rounds.{check_line}
 use Rattle.line_tape.specs.Transit.{in_transit_between}
-use Rattle.line_colours.specs.Channels.{channels_at}
-use Rattle.line_colours.specs.Tables.{between, IsTable}
-use Rattle.line_colours.proofs.TableLemmas.{between-of, table_of-all, IsTable-of}
+use Rattle.line_rounds.specs.Channels.{channels_at}
+use Rattle.line_rounds.specs.Tables.{between, IsTable}
+use Rattle.line_rounds.proofs.TableLemmas.{between-of, table_of-all, IsTable-of}
 use Rattle.line_moves.specs.Listed.{ListedRound, channel_in, channel_table, IsSnapshotOf}
 use Rattle.line_cuts.specs.Cuts.{Floor, IsFloor, cut_history, cut_name}
 use Rattle.line_live.specs.CutMachines.{cut_listed, is_listed_on}

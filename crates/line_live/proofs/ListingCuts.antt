@@ -28,7 +28,7 @@ use Rattle.line_tape.proofs.CutLemmas.{cons_cases, contains_nothing}
 use Rattle.line_laws.proofs.CompletionLemmas.{all_range, closed_parts, completed_closed}
 use Rattle.line_laws.proofs.OrderLemmas.{receipt_in}
 use Rattle.line_laws.proofs.SentLemmas.{In}
-use Rattle.line_steps.specs.declared.modes.Mode.TheVariants.{Fifo}
+use Rattle.line_tape.specs.declared.modes.Mode.TheVariants.{Fifo}
 use Rattle.line_moves.specs.Listed.{ListedRound, channel, channel_table, check_in, listed_round}
 use Rattle.line_moves.specs.Listed.{newly_listed}
 use Rattle.line_cuts.specs.Cuts.{Floor, IsFloor, HasOldRounds, lost_sends, lost_checks, floor_check}

@@ -3,7 +3,7 @@ use Rattle.std.proofs.Common.{◌≡◌, ℕ, ◌≤◌, List, [], ◌∷◌, �
 use Rattle.std.proofs.Common.{refl, sym, ap, ◌∙◌, subst, arith}
 use Rattle.std.proofs.lemmas.List.{take_more, length_push}
 use Rattle.line_world.specs.declared.replies.Answer.{Answer}
-use Rattle.line_steps.specs.declared.steps.Step.{Step}
+use Rattle.line_tape.specs.declared.steps.Step.{Step}
 use Rattle.line_live.specs.Lives.{LiveMachine, RunLive, TakesLive}
 
 -- the first `index` steps were taken, and there is room for the answers of all

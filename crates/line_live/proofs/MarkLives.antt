@@ -19,7 +19,7 @@ use Rattle.line_tape.specs.Front.{HasChoice}
 use Rattle.line_tape.specs.History.{Process, tape_at}
 use Rattle.line_tape.specs.Survival.{survives, is_allowed, is_barred, is_damaged}
 use Rattle.line_tape.specs.Views.{MarksView, bar_at, damaged_at, with_bar, with_mark}
-use Rattle.line_steps.specs.declared.steps.Step.TheVariants.{Damage, Bar}
+use Rattle.line_tape.specs.declared.steps.Step.TheVariants.{Damage, Bar}
 use Rattle.line_moves.specs.Listed.{ListedRound}
 use Rattle.line_world.specs.declared.replies.Answer.{Answer}
 use Rattle.line_world.specs.declared.replies.Answer.TheVariants.{Done, Refused}

@@ -34,7 +34,7 @@ use Rattle.line_laws.proofs.LinkLemmas.{restart_fit, restart_link}
 use Rattle.line_laws.proofs.OrderLemmas.{ordered_fit}
 use Rattle.line_laws.proofs.RoundLines.{in_range}
 use Rattle.line_plan.specs.declared.plans.Plan.{Plan}
-use Rattle.line_steps.specs.declared.steps.Step.TheVariants.{Recover}
+use Rattle.line_tape.specs.declared.steps.Step.TheVariants.{Recover}
 use Rattle.line_moves.specs.Listed.{ListedRound, check_in, is_begun, stays}
 use Rattle.line_moves.specs.Restarts.{restored_state, restored_states}
 use Rattle.line_world.specs.declared.replies.Answer.{Answer}

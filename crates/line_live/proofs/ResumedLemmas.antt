@@ -21,8 +21,8 @@ use Rattle.line_vectors.specs.Reach.{sents_of}
 use Rattle.line_vectors.specs.Vectors.{Fits}
 use Rattle.line_cuts.specs.Cuts.{Floor}
 use Rattle.line_cuts.specs.Floors.{floor_of_line, settled_sends}
-use Rattle.line_colours.specs.Tables.{between, table_of}
-use Rattle.line_colours.proofs.TableLemmas.{between-of, table_of-all, IsTable-of}
+use Rattle.line_rounds.specs.Tables.{between, table_of}
+use Rattle.line_rounds.proofs.TableLemmas.{between-of, table_of-all, IsTable-of}
 use Rattle.line_moves.specs.Listed.{ListedRound, channel_in, channel_table, IsSnapshotOf}
 use Rattle.line_moves.specs.Worlds.{AreNumbered}
 use Rattle.line_live.specs.Resumed.{CheckedRound, checks_in_round, resumed_round, AreByNumber}

@@ -12,8 +12,8 @@ use Rattle.line_tape.specs.History.{Process, tape_at, incarnation_at, with_event
 use Rattle.line_tape.specs.Rounds.{is_completed_fifo}
 use Rattle.line_tape.specs.Spent.{next_name}
 use Rattle.line_tape.specs.Views.{MarksView}
-use Rattle.line_steps.specs.declared.modes.Mode.TheVariants.{Fifo}
-use Rattle.line_steps.specs.declared.steps.Step.TheVariants.{Send}
+use Rattle.line_tape.specs.declared.modes.Mode.TheVariants.{Fifo}
+use Rattle.line_tape.specs.declared.steps.Step.TheVariants.{Send}
 use Rattle.line_moves.specs.Listed.{is_begun, ListedRound, newly_listed}
 use Rattle.line_world.specs.declared.replies.Answer.{Answer}
 use Rattle.line_world.specs.declared.replies.Answer.TheVariants.{Done, Refused}

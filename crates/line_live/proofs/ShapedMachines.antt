@@ -19,10 +19,10 @@ use Rattle.line_tape.specs.Restart.{restarted_damage}
 use Rattle.line_tape.specs.Rounds.{check_index}
 use Rattle.line_tape.specs.Views.{damaged_at, with_bar, with_mark}
 use Rattle.line_tape.proofs.StayLemmas.{length_restarted}
-use Rattle.line_steps.specs.declared.modes.Mode.{Mode}
-use Rattle.line_steps.specs.declared.steps.Step.{Step}
-use Rattle.line_steps.specs.declared.steps.Step.TheVariants.{Send, Deliver, Check, Begin, Turn}
-use Rattle.line_steps.specs.declared.steps.Step.TheVariants.{Damage, Bar, Recover}
+use Rattle.line_tape.specs.declared.modes.Mode.{Mode}
+use Rattle.line_tape.specs.declared.steps.Step.{Step}
+use Rattle.line_tape.specs.declared.steps.Step.TheVariants.{Send, Deliver, Check, Begin, Turn}
+use Rattle.line_tape.specs.declared.steps.Step.TheVariants.{Damage, Bar, Recover}
 use Rattle.line_moves.specs.Fates.{events_taken}
 use Rattle.line_moves.specs.Listed.{ListedRound, check_in, is_completed, listed_round, newly_listed}
 use Rattle.line_moves.specs.Listed.{stays}

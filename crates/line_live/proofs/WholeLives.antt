@@ -17,10 +17,10 @@ use Rattle.line_tape.specs.Rounds.{check_line}
 use Rattle.line_tape.specs.Survival.{IsLatest}
 use Rattle.line_laws.proofs.OrderLemmas.{ordered_fit}
 use Rattle.line_laws.proofs.RoundLines.{in_range}
-use Rattle.line_steps.specs.declared.modes.Mode.{Mode}
-use Rattle.line_steps.specs.declared.steps.Step.{Step}
-use Rattle.line_steps.specs.declared.steps.Step.TheVariants.{Send, Deliver, Check, Begin, Turn}
-use Rattle.line_steps.specs.declared.steps.Step.TheVariants.{Damage, Bar, Recover}
+use Rattle.line_tape.specs.declared.modes.Mode.{Mode}
+use Rattle.line_tape.specs.declared.steps.Step.{Step}
+use Rattle.line_tape.specs.declared.steps.Step.TheVariants.{Send, Deliver, Check, Begin, Turn}
+use Rattle.line_tape.specs.declared.steps.Step.TheVariants.{Damage, Bar, Recover}
 use Rattle.line_moves.specs.Listed.{ListedRound, check_in}
 use Rattle.line_world.specs.declared.replies.Answer.{Answer}
 use Rattle.line_world.specs.declared.replies.Answer.TheVariants.{Done, Refused}

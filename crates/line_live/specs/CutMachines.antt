@@ -10,10 +10,10 @@ use Rattle.line_tape.specs.Fit.{IsFitFifo, link}
 use Rattle.line_tape.specs.History.{tape_at}
 use Rattle.line_tape.specs.Rounds.{has_check_of, is_completed_fifo}
 use Rattle.line_plan.specs.declared.plans.Plan.{Plan}
-use Rattle.line_steps.specs.declared.modes.Mode.TheVariants.{Fifo}
-use Rattle.line_steps.specs.declared.steps.Step.{Step}
-use Rattle.line_steps.specs.declared.steps.Step.TheVariants.{Send, Deliver, Check, Begin, Turn}
-use Rattle.line_steps.specs.declared.steps.Step.TheVariants.{Damage, Bar, Recover}
+use Rattle.line_tape.specs.declared.modes.Mode.TheVariants.{Fifo}
+use Rattle.line_tape.specs.declared.steps.Step.{Step}
+use Rattle.line_tape.specs.declared.steps.Step.TheVariants.{Send, Deliver, Check, Begin, Turn}
+use Rattle.line_tape.specs.declared.steps.Step.TheVariants.{Damage, Bar, Recover}
 use Rattle.line_moves.specs.Listed.{ListedRound, check_in, is_begun}
 use Rattle.line_world.specs.declared.replies.Answer.{Answer}
 use Rattle.line_world.specs.declared.replies.Answer.TheVariants.{Done, Refused}

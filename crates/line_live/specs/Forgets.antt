@@ -7,8 +7,8 @@ use Rattle.line_names.specs.declared.choices.Choice.TheVariants.{Check as AtChec
 use Rattle.line_names.specs.Sets.{is_member}
 use Rattle.line_tape.specs.Rounds.{check_line}
 use Rattle.line_tape.specs.Survival.{survives, IsLatest}
-use Rattle.line_steps.specs.declared.modes.Mode.{Mode}
-use Rattle.line_steps.specs.declared.modes.Mode.TheVariants.{Fifo, Unordered}
+use Rattle.line_tape.specs.declared.modes.Mode.{Mode}
+use Rattle.line_tape.specs.declared.modes.Mode.TheVariants.{Fifo, Unordered}
 use Rattle.line_moves.specs.Listed.{ListedRound, check_in}
 use Rattle.line_world.specs.Machine.{Machine, is_open}
 use Rattle.line_cuts.specs.Cuts.{Floor, FloorSurvives, IsFloor}

@@ -1,6 +1,6 @@
 -- Machines that differ at most in the order in which marks were made.
 use Rattle.std.specs.Prelude.{◌≡◌}
-use Rattle.line_steps.specs.declared.steps.Step.{Step}
+use Rattle.line_tape.specs.declared.steps.Step.{Step}
 use Rattle.line_world.specs.declared.replies.Answer.{Answer}
 use Rattle.line_world.specs.Machine.{Machine}
 use Rattle.line_world.specs.Runs.{Takes}

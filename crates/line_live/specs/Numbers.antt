@@ -11,7 +11,7 @@ use Rattle.line_names.specs.declared.messages.MsgName.{MsgName}
 use Rattle.line_names.specs.Lines.{choice_at}
 use Rattle.line_tape.specs.declared.limits.TheConstants.{MOST_EVENTS}
 use Rattle.line_plan.specs.declared.plans.Plan.{Plan}
-use Rattle.line_steps.specs.declared.modes.Mode.TheVariants.{Fifo}
+use Rattle.line_tape.specs.declared.modes.Mode.TheVariants.{Fifo}
 use Rattle.line_moves.specs.Listed.{ListedRound}
 use Rattle.line_world.specs.Machine.{Machine}
 use Rattle.line_world.specs.declared.replies.Reply.{Reply}

@@ -6,7 +6,7 @@ use Rattle.line_tape.specs.Line.{IsConsistent, IsLine}
 use Rattle.line_tape.specs.Rounds.{check_line}
 use Rattle.line_tape.specs.Transit.{in_transit_between}
 use Rattle.line_tape.specs.Views.{MarksView}
-use Rattle.line_steps.specs.declared.modes.Mode.TheVariants.{Fifo}
+use Rattle.line_tape.specs.declared.modes.Mode.TheVariants.{Fifo}
 use Rattle.line_moves.specs.Listed.{ListedRound, channel_table}
 use Rattle.line_world.specs.Idle.{IsIdle}
 use Rattle.line_world.specs.Machine.{Machine}

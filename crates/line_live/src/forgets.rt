@@ -1,7 +1,7 @@
 //! How a world lets go what stands before a listed round.
 ghost use Rattle.std.specs.Prelude.{◌≡◌, ◌≢◌, ◌<◌, IfErr, IfOk, IsErrOf, OnOk, MatchOption};
 ghost use Rattle.std.specs.Prelude.{None, Some, false, true, length, slice_index_or};
-ghost use Rattle.line_steps.specs.declared.modes.Mode.TheVariants.{Fifo};
+ghost use Rattle.line_tape.specs.declared.modes.Mode.TheVariants.{Fifo};
 ghost use Rattle.line_tape.specs.Rounds.{check_line};
 ghost use Rattle.line_moves.specs.Listed.{ListedRound, IsSnapshotOf};
 ghost use Rattle.line_cuts.specs.Cuts.{IsFloor};
@@ -17,7 +17,7 @@ use crate::worlds::cut_world;
 use line_cuts::{OwnedFloor, floor_at};
 use line_moves::Round;
 use line_names::{Choice, ProcId, ProcSet};
-use line_steps::Mode;
+use line_tape::Mode;
 use line_world::World;
 use std::alloc::{AllocError, Global};
 

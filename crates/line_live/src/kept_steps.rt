@@ -1,8 +1,8 @@
 //! Steps that are asked in the names and numbers of the whole, and answered by what is kept.
 ghost use Rattle.std.specs.Prelude.{◌≡◌, ◌≢◌, ◌-◌, None, Some, IfErr, IfOk, IsErrOf, length};
-ghost use Rattle.line_steps.specs.declared.modes.Mode.TheVariants.{Fifo};
-ghost use Rattle.line_steps.specs.declared.steps.Step.TheVariants.{Bar, Damage};
-ghost use Rattle.line_steps.specs.Shown.{step_of_ref, HasShortBody};
+ghost use Rattle.line_tape.specs.declared.modes.Mode.TheVariants.{Fifo};
+ghost use Rattle.line_tape.specs.declared.steps.Step.TheVariants.{Bar, Damage};
+ghost use Rattle.line_tape.specs.StepShown.{step_of_ref, HasShortBody};
 ghost use Rattle.line_world.specs.declared.replies.Answer.TheVariants.{Done, Refused};
 ghost use Rattle.line_world.specs.Refusals.{refusal_of};
 ghost use Rattle.line_cuts.specs.Cuts.{lost_checks};
@@ -13,7 +13,7 @@ ghost use Rattle.line_live.specs.Lives.{floor_refusal, TakesLive};
 use crate::whole_names::whole_reply;
 use line_cuts::OwnedFloor;
 use line_names::ProcId;
-use line_steps::{Step, StepRef};
+use line_tape::{Step, StepRef};
 use line_world::{Reply, StepError, World};
 use std::alloc::Global;
 

@@ -2,7 +2,7 @@
 ghost use Rattle.std.specs.Prelude.{◌≡◌, ◌<◌, ◌≤◌, ℕ, false, All, None, length};
 ghost use Rattle.line_cuts.specs.Cuts.{floor_check, whole_floor, Floor, FloorSurvives, IsFloor};
 ghost use Rattle.line_moves.specs.Listed.{IsSnapshotOf};
-ghost use Rattle.line_steps.specs.declared.steps.Step.{Step};
+ghost use Rattle.line_tape.specs.declared.steps.Step.{Step};
 ghost use Rattle.line_world.specs.declared.replies.Answer.{Answer};
 ghost use Rattle.line_world.specs.Machine.{Machine, is_open};
 ghost use Rattle.line_world.specs.Runs.{Takes};

@@ -1,7 +1,7 @@
 //! The laws of a machine that lets go.
 ghost use Rattle.std.specs.Prelude.{◌≡◌, ℕ, List, None};
-ghost use Rattle.line_steps.specs.declared.modes.Mode.{Mode};
-ghost use Rattle.line_steps.specs.declared.steps.Step.{Step};
+ghost use Rattle.line_tape.specs.declared.modes.Mode.{Mode};
+ghost use Rattle.line_tape.specs.declared.steps.Step.{Step};
 ghost use Rattle.line_world.specs.declared.replies.Answer.{Answer};
 ghost use Rattle.line_world.specs.Machine.{Machine};
 ghost use Rattle.line_live.specs.Lived.{IsLeftOf, IsLife, IsLifeOfWhole, IsLivedStep};

@@ -8,10 +8,10 @@ ghost use Rattle.line_moves.specs.Listed.{ListedRound, check_in, IsSnapshotOf};
 ghost use Rattle.line_live.specs.CutMachines.{cut_listed, is_listed_on};
 
 use line_catalogue::Catalogue;
-use line_colours::{Channels, SharedChannels};
 use line_cuts::OwnedFloor;
 use line_moves::{Listing, Round};
 use line_names::{Choice, Line, ProcId};
+use line_rounds::{Channels, SharedChannels};
 use std::alloc::{AllocError, Global};
 
 /// Whether none of the checks of a round of `n` processes is before the floor.

@@ -12,7 +12,7 @@ use crate::refusals::ForgetError;
 use crate::worlds::cut_world;
 use line_cuts::{OwnedFloor, floor_at};
 use line_names::{ProcId, ProcSet};
-use line_steps::Mode;
+use line_tape::Mode;
 use line_world::World;
 use std::alloc::{AllocError, Global};
 

@@ -1,8 +1,8 @@
 //! The machine that lets go: it answers as the world does, and keeps no more than it needs.
 ghost use Rattle.std.specs.Prelude.{◌≡◌, ◌≢◌, ◌<◌, ◌≤◌, ◌↔◌, ◌⊎◌, ℕ, None, Some, length, map};
 ghost use Rattle.std.specs.Prelude.{IfErr, IfOk, IsErrOf, IsOk, IsTrue, OnOk, take};
-ghost use Rattle.line_steps.specs.declared.modes.Mode.TheVariants.{Fifo};
-ghost use Rattle.line_steps.specs.Shown.{step_of_ref, HasShortBody};
+ghost use Rattle.line_tape.specs.declared.modes.Mode.TheVariants.{Fifo};
+ghost use Rattle.line_tape.specs.StepShown.{step_of_ref, HasShortBody};
 ghost use Rattle.line_world.specs.declared.replies.Answer.TheVariants.{Done, Refused};
 ghost use Rattle.line_world.specs.Machine.{is_open};
 ghost use Rattle.line_world.specs.Refusals.{has_stranger, refusal_of};
@@ -29,8 +29,7 @@ use line_catalogue::Catalogue;
 use line_cuts::{OwnedFloor, whole_floor};
 use line_names::{MOST_PROCESSES, ProcSet};
 use line_plan::Plan;
-use line_steps::{Mode, Step, StepRef};
-use line_tape::CountError;
+use line_tape::{CountError, Mode, Step, StepRef};
 use line_world::{Answer, Reply, RunStopped, StepError, World};
 use std::alloc::Global;
 use std::marker::Model;

@@ -6,7 +6,7 @@
 //! are as one, and `lives_stay_sound` that what is kept is as every run leaves a machine.
 ghost use Rattle.std.specs.Prelude.{◌≡◌, ◌<◌, ◌≤◌, ℕ, false, All, List, length, map};
 ghost use Rattle.line_moves.specs.Listed.{IsSnapshotOf};
-ghost use Rattle.line_steps.specs.declared.steps.Step.{Step};
+ghost use Rattle.line_tape.specs.declared.steps.Step.{Step};
 ghost use Rattle.line_world.specs.declared.replies.Answer.{Answer};
 ghost use Rattle.line_world.specs.Machine.{Machine, is_open};
 ghost use Rattle.line_world.specs.Runs.{Run, Takes};

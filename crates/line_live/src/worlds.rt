@@ -1,6 +1,6 @@
 //! What is left of a world.
 ghost use Rattle.std.specs.Prelude.{◌≡◌, IfOk};
-ghost use Rattle.line_steps.specs.declared.modes.Mode.TheVariants.{Fifo};
+ghost use Rattle.line_tape.specs.declared.modes.Mode.TheVariants.{Fifo};
 ghost use Rattle.line_cuts.specs.Cuts.{IsFloor};
 ghost use Rattle.line_live.specs.CutMachines.{cut_machine};
 ghost use Rattle.line_live.specs.Machines.{IsSameMachine};

@@ -16,7 +16,7 @@ use Rattle.line_names.specs.declared.messages.MsgName.{MsgName}
 use Rattle.line_tape.specs.declared.items.Item.{Item}
 use Rattle.line_tape.specs.History.{Process}
 use Rattle.line_tape.specs.Transit.{addressee, goes_between}
-use Rattle.line_colours.specs.Tables.{between}
+use Rattle.line_rounds.specs.Tables.{between}
 use Rattle.line_moves.specs.Worlds.{AreQueues, IsItemOf}
 use Rattle.line_moves.specs.Rooms.{count_between, items_held, no_queue, queue_at, queue_to}
 use Rattle.line_moves.specs.Rooms.{AreCountedOnQueues, AreEmpty, AreUncounted, HaveRoom, IsCounted}

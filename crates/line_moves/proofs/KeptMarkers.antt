@@ -10,7 +10,7 @@ use Rattle.std.proofs.lemmas.Bool.{cases_eq, cases_lt, eq-eqb, ltb-false, ltb-tr
 use Rattle.std.proofs.lemmas.List.{get_or_default}
 use Rattle.std.proofs.lemmas.List.Elements.{All-nil, All-cons, All-head, All-tail}
 use Rattle.std.proofs.lemmas.Nat.Bits.{bit_at_set_same, bit_at_set_other}
-use Rattle.line_marker.specs.Recording.{MarkerView, messages_by, round_of}
+use Rattle.line_rounds.specs.Recording.{MarkerView, messages_by, round_of}
 use Rattle.line_names.specs.declared.messages.MsgName.{MsgName}
 use Rattle.line_moves.specs.Openings.{kept_channel, marker_at, marker_of, no_marker}
 use Rattle.line_moves.specs.Openings.{recorded_channel, AreByProcess, AreMarkers, AreRecordedBy}

@@ -6,11 +6,11 @@ use Rattle.std.specs.Option.{option_copied}
 use Rattle.std.specs.List.{range_with_len}
 use Rattle.std.proofs.lemmas.Bool.{cases_eq, eq-eqb}
 use Rattle.line_names.specs.declared.messages.MsgName.{MsgName}
-use Rattle.line_marker.specs.Recording.{MarkerView}
+use Rattle.line_rounds.specs.Recording.{MarkerView}
 use Rattle.line_tape.specs.History.{Process}
 use Rattle.line_tape.specs.Rounds.{check_line}
 use Rattle.line_tape.specs.Transit.{in_transit_between}
-use Rattle.line_colours.specs.Tables.{between, IsTable}
+use Rattle.line_rounds.specs.Tables.{between, IsTable}
 use Rattle.line_moves.specs.Listed.{ListedRound, channel_table}
 use Rattle.line_moves.specs.Openings.{channels_kept, AreChannels, AreInTransit}
 use Rattle.line_moves.proofs.OpenFacts.{map_cells}

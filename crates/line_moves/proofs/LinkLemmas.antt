@@ -19,9 +19,9 @@ use Rattle.line_laws.proofs.NextLemmas.{stays_fit, link_after}
 use Rattle.line_tape.specs.Rounds.{has_check_of}
 use Rattle.line_laws.proofs.CompletionLemmas.{contains_round}
 use Rattle.line_moves.specs.Queues.{with_on_each, with_on_others}
-use Rattle.line_colours.specs.Tables.{between, with_list}
+use Rattle.line_rounds.specs.Tables.{between, with_list}
 use Rattle.line_moves.specs.Worlds.{AreQueues, IsOrderedWorld}
-use Rattle.line_colours.proofs.TableLemmas.{between-other, between-same}
+use Rattle.line_rounds.proofs.TableLemmas.{between-other, between-same}
 
 -- nothing either way
 same_nil : (b : Bool) → cond b [] [] ≡ (let none : List Item = [] in none)

@@ -7,8 +7,8 @@ use Rattle.std.proofs.lemmas.List.{length_push, get_or_append_left, get_or_defau
 use Rattle.std.proofs.lemmas.List.{get_or-set_other}
 use Rattle.std.specs.Prelude.{◌==◌, ◌↔◌, IsTrue, Result, Ok, Err, OnOk, OnErr}
 use Rattle.std.specs.List.{range_with_len}
-use Rattle.line_marker.specs.Recording.{Channel, MarkerView, RecordedRound, messages_by, IsOver}
-use Rattle.line_marker.specs.Recording.{with_marker, with_round, rounds_with_message, IsRepeated}
+use Rattle.line_rounds.specs.Recording.{Channel, MarkerView, RecordedRound, messages_by, IsOver}
+use Rattle.line_rounds.specs.Recording.{with_marker, with_round, rounds_with_message, IsRepeated}
 use Rattle.line_names.specs.declared.messages.MsgName.{MsgName}
 use Rattle.line_tape.specs.declared.events.Event.{Event}
 use Rattle.line_tape.specs.declared.events.Event.TheVariants.{Recv, Check, Mark}
@@ -19,10 +19,10 @@ use Rattle.line_laws.proofs.CompletionLemmas.{closed_from, closed_parts}
 use Rattle.line_moves.proofs.FateLemmas.{same_test}
 use Rattle.line_laws.proofs.RoundLines.{closed_has_check, completed_checked}
 use Rattle.line_tape.proofs.EventLemmas.{tape_same, tape_other}
-use Rattle.line_steps.specs.declared.modes.Mode.TheVariants.{Fifo}
+use Rattle.line_tape.specs.declared.modes.Mode.TheVariants.{Fifo}
 use Rattle.line_moves.specs.Listed.{ListedRound, channel, channel_table, listed_round}
-use Rattle.line_colours.specs.Turning.{TurningView, IsTurning}
-use Rattle.line_colours.proofs.TurningLemmas.{IsTurning-checked, IsTurning-kept}
+use Rattle.line_rounds.specs.Turning.{TurningView, IsTurning}
+use Rattle.line_rounds.proofs.TurningLemmas.{IsTurning-checked, IsTurning-kept}
 use Rattle.line_moves.specs.Openings.{OpenView, kept_channel, recorded_channel, recorded_table}
 use Rattle.line_moves.specs.Openings.{marker_at, no_marker, AreMarkers, IsFresh, IsMarkerOf}
 use Rattle.line_moves.specs.Openings.{IsRecording, IsRoundOrNone}

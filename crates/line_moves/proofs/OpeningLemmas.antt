@@ -13,7 +13,7 @@ use Rattle.std.proofs.lemmas.List.FromFn.{get_or-range_with_len, length-range_wi
 use Rattle.std.proofs.lemmas.List.Folds.{list_any_at}
 use Rattle.std.proofs.lemmas.List.Elements.{All-filter, filter_passes, All-weaker, All-append}
 use Rattle.std.proofs.lemmas.List.Elements.{All-cons, All-nil}
-use Rattle.line_marker.specs.Recording.{MarkerView}
+use Rattle.line_rounds.specs.Recording.{MarkerView}
 use Rattle.line_names.specs.declared.messages.MsgName.{MsgName}
 use Rattle.line_tape.specs.declared.events.Event.{Event}
 use Rattle.line_tape.specs.declared.events.Event.TheVariants.{Check, Mark}
@@ -29,10 +29,10 @@ use Rattle.line_laws.proofs.GrowthLemmas.{has_check_push, checked_event, complet
 use Rattle.line_tape.proofs.EventLemmas.{tape_same, tape_other}
 use Rattle.line_laws.proofs.RoundLines.{in_range, checked_has, completed_checked, marker_snapshot}
 use Rattle.line_laws.proofs.SnapshotLemmas.{snapshot_event, snapshot_restarted}
-use Rattle.line_colours.specs.Tables.{between}
-use Rattle.line_colours.proofs.TableLemmas.{between-of}
-use Rattle.line_steps.specs.declared.modes.Mode.{Mode}
-use Rattle.line_steps.specs.declared.modes.Mode.TheVariants.{Fifo, Unordered}
+use Rattle.line_rounds.specs.Tables.{between}
+use Rattle.line_rounds.proofs.TableLemmas.{between-of}
+use Rattle.line_tape.specs.declared.modes.Mode.{Mode}
+use Rattle.line_tape.specs.declared.modes.Mode.TheVariants.{Fifo, Unordered}
 use Rattle.line_moves.specs.Listed.{ListedRound, channel, channel_in, channel_table, check_in}
 use Rattle.line_moves.specs.Listed.{is_begun, is_completed, listed_round, stays, IsSnapshotOf}
 use Rattle.line_moves.specs.Listed.{newly_listed}
@@ -40,12 +40,12 @@ use Rattle.line_names.specs.declared.choices.Choice.{Choice}
 use Rattle.line_names.specs.declared.choices.Choice.TheVariants.{Check as AtCheck, Now}
 use Rattle.line_names.specs.Lines.{choice_at}
 use Rattle.line_tape.specs.Restart.{is_kept, restarted_history}
-use Rattle.line_colours.specs.Turning.{TurningView}
+use Rattle.line_rounds.specs.Turning.{TurningView}
 use Rattle.line_moves.specs.Openings.{OpenView, left_open, marker_at, first_unlisted, newly_closed}
 use Rattle.line_moves.specs.Openings.{open_number, opened_turning, turning_of, IsLastBegun}
 use Rattle.line_moves.specs.Openings.{IsMarkerOf, IsOnlyOpen, IsRecordingIn, IsRecording, IsRunning}
 use Rattle.line_moves.specs.Worlds.{AreNumbered, AreRounds}
-use Rattle.line_colours.proofs.TurningLemmas.{IsTurning-kept}
+use Rattle.line_rounds.proofs.TurningLemmas.{IsTurning-kept}
 use Rattle.line_moves.proofs.LinkLemmas.{length-with_event}
 use Rattle.line_moves.proofs.RecordingLemmas.{or-true, IsMarkerOf-kept}
 

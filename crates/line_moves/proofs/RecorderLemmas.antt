@@ -13,9 +13,9 @@ use Rattle.std.proofs.lemmas.List.FromFn.{fill_by_all, get_or-map-range_with_len
 use Rattle.std.proofs.lemmas.List.FromFn.{length-map-range_with_len}
 use Rattle.line_names.specs.Sets.{is_member}
 use Rattle.line_names.specs.declared.messages.MsgName.{MsgName}
-use Rattle.line_marker.specs.Recording.{Channel, RecordedRound, open_channel, channel_at}
-use Rattle.line_marker.specs.Recording.{messages_by, round_of, with_channel, with_marker}
-use Rattle.line_marker.specs.Recording.{with_message, with_round, rounds_with_message}
+use Rattle.line_rounds.specs.Recording.{Channel, RecordedRound, open_channel, channel_at}
+use Rattle.line_rounds.specs.Recording.{messages_by, round_of, with_channel, with_marker}
+use Rattle.line_rounds.specs.Recording.{with_message, with_round, rounds_with_message}
 use Rattle.line_moves.specs.Recorders.{channel_noted, rounds_noted, IsUnheard}
 
 channel_is : (a b : List MsgName) (c d : Bool) → a ≡ b → c ≡ d → (let x : Channel = record

@@ -8,10 +8,10 @@ use Rattle.std.proofs.lemmas.Bool.{cases_eq, eq-eqb, ne_eqb, and_left}
 use Rattle.std.proofs.lemmas.List.{append-nil, length-set, length-replicate, get_or-set_same}
 use Rattle.std.proofs.lemmas.List.{get_or-set_other, get_or-replicate}
 use Rattle.line_names.specs.declared.messages.MsgName.{MsgName}
-use Rattle.line_marker.specs.Recording.{Channel, MarkerView, RecordedRound, open_channel}
-use Rattle.line_marker.specs.Recording.{channel_at, with_channel, with_marker, with_round}
-use Rattle.line_marker.specs.Recording.{with_message, rounds_with_message, round_of, IsOver}
-use Rattle.line_marker.specs.Recording.{IsRepeated}
+use Rattle.line_rounds.specs.Recording.{Channel, MarkerView, RecordedRound, open_channel}
+use Rattle.line_rounds.specs.Recording.{channel_at, with_channel, with_marker, with_round}
+use Rattle.line_rounds.specs.Recording.{with_message, rounds_with_message, round_of, IsOver}
+use Rattle.line_rounds.specs.Recording.{IsRepeated}
 use Rattle.line_tape.specs.declared.events.Event.{Event}
 use Rattle.line_tape.specs.declared.events.Event.TheVariants.{Recv, Check, Mark}
 use Rattle.line_tape.specs.Rounds.{has_check_of, has_mark_of, channel_on, is_check_of, is_mark_of}

@@ -8,14 +8,14 @@ use Rattle.std.proofs.lemmas.Bool.{cases_eq}
 use Rattle.std.proofs.lemmas.List.{length-set, get_or_default, get_or-set_same, get_or-set_other}
 use Rattle.std.proofs.lemmas.List.Sums.{sum_by-cons, sum_by-set}
 use Rattle.line_names.specs.declared.messages.MsgName.{MsgName}
-use Rattle.line_marker.specs.Recording.{Channel, MarkerView, RecordedRound, open_channel}
-use Rattle.line_marker.specs.Recording.{channel_at, with_channel, with_marker, with_message}
-use Rattle.line_marker.specs.Recording.{with_round, rounds_with_message, round_of, IsSameProcess}
+use Rattle.line_rounds.specs.Recording.{Channel, MarkerView, RecordedRound, open_channel}
+use Rattle.line_rounds.specs.Recording.{channel_at, with_channel, with_marker, with_message}
+use Rattle.line_rounds.specs.Recording.{with_round, rounds_with_message, round_of, IsSameProcess}
 use Rattle.line_tape.specs.declared.events.Event.{Event}
 use Rattle.line_tape.specs.History.{Process, tape_at}
 use Rattle.line_tape.specs.Rounds.{is_completed_fifo}
 use Rattle.line_laws.proofs.CompletionLemmas.{closed_parts, completed_closed}
-use Rattle.line_colours.specs.Turning.{TurningView}
+use Rattle.line_rounds.specs.Turning.{TurningView}
 use Rattle.line_moves.specs.Openings.{channels_in, marker_at, markers_heard, no_marker, AreMarkers}
 use Rattle.line_moves.specs.Openings.{AreToCome, IsFresh, IsRecording}
 use Rattle.line_moves.proofs.RecordingLemmas.{recorded_round, recorded_there}

@@ -9,7 +9,7 @@ use Rattle.std.proofs.lemmas.List.{length-map}
 use Rattle.line_names.specs.declared.choices.Choice.{Choice}
 use Rattle.line_names.specs.declared.choices.Choice.TheVariants.{Check as AtCheck}
 use Rattle.line_names.specs.declared.messages.MsgName.{MsgName}
-use Rattle.line_marker.specs.Recording.{MarkerView}
+use Rattle.line_rounds.specs.Recording.{MarkerView}
 use Rattle.line_tape.specs.declared.events.Event.{Event}
 use Rattle.line_tape.specs.declared.events.Event.TheVariants.{Check}
 use Rattle.line_tape.specs.Colours.{is_completed_unordered}
@@ -19,13 +19,13 @@ use Rattle.line_laws.proofs.CompletionLemmas.{checked_from}
 use Rattle.line_tape.proofs.EventLemmas.{tape_same, tape_other}
 use Rattle.line_laws.proofs.RoundLines.{checked_has}
 use Rattle.line_laws.proofs.RoundTransit.{round_transit}
-use Rattle.line_colours.proofs.ChannelLemmas.{channel-at, IsTable-at}
-use Rattle.line_colours.proofs.CompletedLemmas.{line_choice}
-use Rattle.line_colours.proofs.TurningLemmas.{IsTurning-checked}
-use Rattle.line_colours.specs.Channels.{channels_at}
-use Rattle.line_colours.specs.Tables.{between, IsTable}
-use Rattle.line_colours.specs.Turning.{TurningView, IsLastLine, IsTurning}
-use Rattle.line_steps.specs.declared.modes.Mode.TheVariants.{Unordered}
+use Rattle.line_rounds.proofs.ChannelLemmas.{channel-at, IsTable-at}
+use Rattle.line_rounds.proofs.CompletedLemmas.{line_choice}
+use Rattle.line_rounds.proofs.TurningLemmas.{IsTurning-checked}
+use Rattle.line_rounds.specs.Channels.{channels_at}
+use Rattle.line_rounds.specs.Tables.{between, IsTable}
+use Rattle.line_rounds.specs.Turning.{TurningView, IsLastLine, IsTurning}
+use Rattle.line_tape.specs.declared.modes.Mode.TheVariants.{Unordered}
 use Rattle.line_moves.specs.Listed.{ListedRound, channel, channel_table, is_begun, is_completed}
 use Rattle.line_moves.specs.Listed.{listed_round, IsSnapshotOf}
 use Rattle.line_moves.specs.Openings.{OpenView, channels_kept, left_open, newly_closed, opened_by}

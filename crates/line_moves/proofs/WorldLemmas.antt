@@ -36,12 +36,12 @@ use Rattle.line_laws.proofs.OrderLemmas.{messages_sent, sent_is}
 use Rattle.line_laws.proofs.SentLemmas.{messages, In}
 use Rattle.line_tape.proofs.StayLemmas.{length_restarted}
 use Rattle.line_moves.specs.declared.fates.Fate.TheVariants.{Taken, Stale, Repeated}
-use Rattle.line_steps.specs.declared.modes.Mode.{Mode}
-use Rattle.line_steps.specs.declared.modes.Mode.TheVariants.{Fifo, Unordered}
+use Rattle.line_tape.specs.declared.modes.Mode.{Mode}
+use Rattle.line_tape.specs.declared.modes.Mode.TheVariants.{Fifo, Unordered}
 use Rattle.line_moves.specs.Fates.{fate_of, is_held}
 use Rattle.line_moves.specs.Modes.{IsFitIn, copies_in, items_in}
 use Rattle.line_moves.specs.Queues.{with_on_each, with_on_others, taken_off}
-use Rattle.line_colours.specs.Tables.{between, with_list, IsTable}
+use Rattle.line_rounds.specs.Tables.{between, with_list, IsTable}
 use Rattle.line_moves.specs.Restarts.{restarted_copies}
 use Rattle.line_moves.specs.Worlds.{IsItemOf, message_of, messages_at, names_on, AreQueues}
 use Rattle.line_moves.specs.Worlds.{HoldMessages, IsLinked, IsMessage, IsWorld}
@@ -49,8 +49,8 @@ use Rattle.line_moves.proofs.FateLemmas.{held-true}
 use Rattle.line_moves.proofs.LinkLemmas.{length-with_event, first_rest, IsOrdered-check}
 use Rattle.line_moves.proofs.LinkLemmas.{IsOrdered-mark, IsOrdered-round, IsOrdered-send}
 use Rattle.line_moves.proofs.LinkLemmas.{IsOrdered-take}
-use Rattle.line_colours.proofs.TableLemmas.{between-other, between-same, table_of-all}
-use Rattle.line_colours.proofs.TableLemmas.{IsTable-written}
+use Rattle.line_rounds.proofs.TableLemmas.{between-other, between-same, table_of-all}
+use Rattle.line_rounds.proofs.TableLemmas.{IsTable-written}
 
 -- the history fits
 pub IsFit-world : (mode : Mode) (history : List Process) (queues : List (List (List Item)))

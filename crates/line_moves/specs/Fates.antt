@@ -15,8 +15,8 @@ use Rattle.line_tape.specs.Transit.{has_received}
 use Rattle.line_moves.specs.declared.fates.Fate.{Fate}
 use Rattle.line_moves.specs.declared.fates.Fate.TheVariants.{Taken as IsTaken, Stale as IsStale}
 use Rattle.line_moves.specs.declared.fates.Fate.TheVariants.{Repeated as IsRepeated}
-use Rattle.line_steps.specs.declared.modes.Mode.{Mode}
-use Rattle.line_steps.specs.declared.modes.Mode.TheVariants.{Fifo, Unordered}
+use Rattle.line_tape.specs.declared.modes.Mode.{Mode}
+use Rattle.line_tape.specs.declared.modes.Mode.TheVariants.{Fifo, Unordered}
 
 -- the sender's tape holds the message: its send of that number has that incarnation
 abbrev pub is_held : List Process → MsgName → Bool

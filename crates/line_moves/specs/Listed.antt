@@ -13,9 +13,9 @@ use Rattle.line_tape.specs.Survival.{survives}
 use Rattle.line_tape.specs.Views.{MarksView}
 use Rattle.line_tape.specs.Rounds.{has_check_of, checks_of, is_completed_fifo, channel_fifo}
 use Rattle.line_tape.specs.Rounds.{check_line, IsSnapshot}
-use Rattle.line_colours.specs.Tables.{between, table_of}
-use Rattle.line_steps.specs.declared.modes.Mode.{Mode}
-use Rattle.line_steps.specs.declared.modes.Mode.TheVariants.{Fifo, Unordered}
+use Rattle.line_rounds.specs.Tables.{between, table_of}
+use Rattle.line_tape.specs.declared.modes.Mode.{Mode}
+use Rattle.line_tape.specs.declared.modes.Mode.TheVariants.{Fifo, Unordered}
 
 -- a round, with its check of each process and its channel from each process to each; the channel
 -- from a process to itself is empty

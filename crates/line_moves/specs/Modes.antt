@@ -7,9 +7,9 @@ use Rattle.line_tape.specs.declared.items.Item.{Item}
 use Rattle.line_tape.specs.declared.items.Item.TheVariants.{Message}
 use Rattle.line_tape.specs.Fit.{link, IsFitFifo, IsFitUnordered}
 use Rattle.line_tape.specs.History.{Process}
-use Rattle.line_colours.specs.Tables.{between}
-use Rattle.line_steps.specs.declared.modes.Mode.{Mode}
-use Rattle.line_steps.specs.declared.modes.Mode.TheVariants.{Fifo, Unordered}
+use Rattle.line_rounds.specs.Tables.{between}
+use Rattle.line_tape.specs.declared.modes.Mode.{Mode}
+use Rattle.line_tape.specs.declared.modes.Mode.TheVariants.{Fifo, Unordered}
 
 -- the history is one that links of the mode can lead to
 abbrev pub IsFitIn : Mode → List Process → Type 0

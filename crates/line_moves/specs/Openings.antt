@@ -5,8 +5,8 @@ use Rattle.std.specs.Int.{bit_at}
 use Rattle.std.specs.Prelude.{◌≡◌, ◌≢◌, ◌==◌, ℕ, suc, ◌<◌, ◌≤◌, ◌+◌, ◌-◌, ◌*◌, ◌%◌, Bool, true}
 use Rattle.std.specs.Prelude.{false, if◌then◌else◌, List, [], ◌∷◌, ◌++◌, length, slice_index_or}
 use Rattle.std.specs.Prelude.{Option, Some, None, All, AllPairs}
-use Rattle.line_marker.specs.Recording.{Channel, MarkerView, RecordedRound, channel_at, messages_by}
-use Rattle.line_marker.specs.Recording.{round_of}
+use Rattle.line_rounds.specs.Recording.{Channel, MarkerView, RecordedRound, channel_at, messages_by}
+use Rattle.line_rounds.specs.Recording.{round_of}
 use Rattle.line_names.specs.declared.choices.Choice.{Choice}
 use Rattle.line_names.specs.declared.messages.MsgName.{MsgName}
 use Rattle.line_tape.specs.declared.events.Event.{Event}
@@ -14,10 +14,10 @@ use Rattle.line_tape.specs.History.{Process, tape_at}
 use Rattle.line_tape.specs.Colours.{is_completed_unordered}
 use Rattle.line_tape.specs.Rounds.{has_check_of, has_mark_of, channel_on, round_line}
 use Rattle.line_tape.specs.Transit.{in_transit_between}
-use Rattle.line_colours.specs.Tables.{between, IsTable}
-use Rattle.line_colours.specs.Turning.{TurningView, IsLastLine, IsTurning}
-use Rattle.line_steps.specs.declared.modes.Mode.{Mode}
-use Rattle.line_steps.specs.declared.modes.Mode.TheVariants.{Fifo, Unordered}
+use Rattle.line_rounds.specs.Tables.{between, IsTable}
+use Rattle.line_rounds.specs.Turning.{TurningView, IsLastLine, IsTurning}
+use Rattle.line_tape.specs.declared.modes.Mode.{Mode}
+use Rattle.line_tape.specs.declared.modes.Mode.TheVariants.{Fifo, Unordered}
 use Rattle.line_moves.specs.Listed.{ListedRound, channel_table, is_begun, is_completed}
 use Rattle.line_moves.specs.Listed.{listed_round}
 

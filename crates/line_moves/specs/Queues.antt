@@ -3,9 +3,9 @@ use Rattle.std.specs.Prelude.{ℕ, ◌==◌, if◌then◌else◌, List, [], ◌�
 use Rattle.std.specs.Prelude.{slice_index_or, slice_set}
 use Rattle.std.specs.List.{range_with_len}
 use Rattle.line_tape.specs.declared.items.Item.{Item}
-use Rattle.line_colours.specs.Tables.{between, with_list}
-use Rattle.line_steps.specs.declared.modes.Mode.{Mode}
-use Rattle.line_steps.specs.declared.modes.Mode.TheVariants.{Fifo, Unordered}
+use Rattle.line_rounds.specs.Tables.{between, with_list}
+use Rattle.line_tape.specs.declared.modes.Mode.{Mode}
+use Rattle.line_tape.specs.declared.modes.Mode.TheVariants.{Fifo, Unordered}
 
 -- the queues once an item from process p to q is taken: off its queue, if it was the first there,
 -- and a copy stays

@@ -2,7 +2,7 @@
 use Rattle.std.specs.Prelude.{◌≡◌, ℕ, Bool, false, List, [], ◌∷◌, map, slice_index_or, Option, Some}
 use Rattle.std.specs.Prelude.{None}
 use Rattle.std.specs.List.{range_with_len}
-use Rattle.line_marker.specs.Recording.{Channel, RecordedRound}
+use Rattle.line_rounds.specs.Recording.{Channel, RecordedRound}
 use Rattle.line_names.specs.Sets.{is_member}
 use Rattle.line_names.specs.declared.messages.MsgName.{MsgName}
 

@@ -9,8 +9,8 @@ use Rattle.line_tape.specs.declared.events.Event.{Event}
 use Rattle.line_tape.specs.Event.{stored_state}
 use Rattle.line_tape.specs.History.{Process, tape_at}
 use Rattle.line_tape.specs.Transit.{in_transit_between}
-use Rattle.line_colours.specs.Tables.{between, table_of}
-use Rattle.line_steps.specs.declared.modes.Mode.{Mode}
+use Rattle.line_rounds.specs.Tables.{between, table_of}
+use Rattle.line_tape.specs.declared.modes.Mode.{Mode}
 use Rattle.line_moves.specs.Modes.{copies_in}
 
 -- the bytes stored at a choice: none where the process stands now

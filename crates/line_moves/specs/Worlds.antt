@@ -10,12 +10,12 @@ use Rattle.line_tape.specs.Copies.{IsUnordered}
 use Rattle.line_tape.specs.Fit.{link, IsFitFifo}
 use Rattle.line_tape.specs.History.{Process, tape_at}
 use Rattle.line_tape.specs.Rounds.{has_check_of}
-use Rattle.line_colours.specs.Kept.{ProcessTurns, AreTurned}
-use Rattle.line_steps.specs.declared.modes.Mode.{Mode}
-use Rattle.line_steps.specs.declared.modes.Mode.TheVariants.{Fifo, Unordered}
+use Rattle.line_rounds.specs.Kept.{ProcessTurns, AreTurned}
+use Rattle.line_tape.specs.declared.modes.Mode.{Mode}
+use Rattle.line_tape.specs.declared.modes.Mode.TheVariants.{Fifo, Unordered}
 use Rattle.line_moves.specs.Listed.{ListedRound, IsSnapshotOf}
 use Rattle.line_moves.specs.Openings.{OpenView, first_unlisted, IsOnlyOpen, IsLastBegun}
-use Rattle.line_colours.specs.Tables.{between, IsTable}
+use Rattle.line_rounds.specs.Tables.{between, IsTable}
 
 -- the item is a message of process p, or a marker
 abbrev pub IsItemOf : ℕ → Item → Type 0

@@ -9,15 +9,15 @@ ghost use Rattle.line_tape.specs.History.{tape_at, with_event};
 ghost use Rattle.line_tape.specs.Line.{IsLine};
 ghost use Rattle.line_tape.specs.Rounds.{check_line, has_check_of};
 ghost use Rattle.line_tape.specs.Transit.{in_transit_between, letters, names_received};
-ghost use Rattle.line_colours.specs.Turning.{IsTurning};
+ghost use Rattle.line_rounds.specs.Turning.{IsTurning};
 ghost use Rattle.line_moves.specs.Listed.{IsSnapshotOf};
 ghost use Rattle.line_moves.specs.Openings.{AreCountedAtLast};
 ghost use Rattle.line_moves.specs.Openings.{IsCountedAtRound};
 
 use crate::rounds::Round;
 use line_catalogue::Catalogue;
-use line_colours::{Channels, SharedChannels, Turning};
 use line_names::{Choice, Line, ProcId};
+use line_rounds::{Channels, SharedChannels, Turning};
 use line_tape::{History, Tape};
 use std::alloc::{AllocError, Global};
 

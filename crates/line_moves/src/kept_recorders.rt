@@ -1,6 +1,6 @@
 //! What processes recorded of a round of markers, as it is kept of a round that is completed.
 ghost use Rattle.std.specs.Prelude.{◌≡◌, ◌<◌, [], All};
-ghost use Rattle.line_marker.specs.Recording.{MarkerView};
+ghost use Rattle.line_rounds.specs.Recording.{MarkerView};
 ghost use Rattle.line_moves.specs.Openings.{kept_channel, AreByProcess};
 
 use crate::recorders::Recorder;
@@ -20,7 +20,7 @@ pub(crate) struct KeptRecorders {
 
 impl Model for KeptRecorders {
     ghost use Rattle.std.specs.Prelude.{List};
-    ghost use Rattle.line_marker.specs.Recording.{MarkerView};
+    ghost use Rattle.line_rounds.specs.Recording.{MarkerView};
     ghost use Rattle.line_moves.specs.Openings.{AreRecordedBy};
 
     ghost Value = { List MarkerView };

@@ -10,13 +10,13 @@ ghost use Rattle.std.specs.Prelude.{◌≡◌, ◌<◌, ◌≤◌, ℕ, All, IfO
 ghost use Rattle.std.specs.Prelude.{slice_index_or};
 ghost use Rattle.line_tape.specs.Rounds.{check_line};
 ghost use Rattle.line_tape.specs.Transit.{in_transit_between};
-ghost use Rattle.line_colours.specs.Tables.{between, IsTable};
+ghost use Rattle.line_rounds.specs.Tables.{between, IsTable};
 ghost use Rattle.line_moves.specs.Listed.{channel_table, IsSnapshotOf, ListedRound};
 
 use crate::counts::are_checks_between;
 use crate::rounds::Round;
-use line_colours::SharedChannels;
 use line_names::{Choice, ProcId};
+use line_rounds::SharedChannels;
 use line_tape::History;
 use std::alloc::{AllocError, Global};
 

@@ -3,7 +3,7 @@ ghost use Rattle.std.specs.Prelude.{◌≡◌, ◌≢◌, ℕ, ◌+◌, ◌<◌,
 ghost use Rattle.std.specs.Prelude.{replicate, drop, slice_index_or, slice_set, slice_get, IfOk};
 ghost use Rattle.std.specs.Prelude.{OnOk, OnErr};
 ghost use Rattle.line_moves.specs.Queues.{with_on_each, with_on_others};
-ghost use Rattle.line_colours.specs.Tables.{between, with_list};
+ghost use Rattle.line_rounds.specs.Tables.{between, with_list};
 ghost use Rattle.line_moves.specs.Rooms.{queue_to, items_held, AreEmpty, IsCounted, QueueView};
 
 use crate::link_items::LinkItem;

@@ -13,11 +13,11 @@ ghost use Rattle.line_tape.specs.Event.{Holds};
 ghost use Rattle.line_tape.specs.History.{tape_at, incarnation_at, with_event};
 ghost use Rattle.line_tape.specs.Spent.{next_name};
 ghost use Rattle.line_catalogue.specs.Views.{catalogue_room_at};
-ghost use Rattle.line_steps.specs.declared.modes.Mode.TheVariants.{Fifo};
+ghost use Rattle.line_tape.specs.declared.modes.Mode.TheVariants.{Fifo};
 ghost use Rattle.line_moves.specs.Moves.{next_check};
 ghost use Rattle.line_moves.specs.Openings.{open_number, IsOnlyOpen};
 ghost use Rattle.line_moves.specs.Queues.{taken_off};
-ghost use Rattle.line_colours.specs.Tables.{between, with_list, IsTable};
+ghost use Rattle.line_rounds.specs.Tables.{between, with_list, IsTable};
 
 use crate::links::Links;
 use crate::openings::{OpenRound, note};

@@ -6,7 +6,7 @@ ghost use Rattle.line_tape.specs.declared.events.Event.TheVariants.{Check as Che
 ghost use Rattle.line_tape.specs.declared.events.Event.TheVariants.{Mark as MarkEvent};
 ghost use Rattle.line_tape.specs.History.{tape_at, with_event};
 ghost use Rattle.line_tape.specs.Rounds.{has_check_of, is_completed_fifo};
-ghost use Rattle.line_steps.specs.declared.modes.Mode.TheVariants.{Fifo};
+ghost use Rattle.line_tape.specs.declared.modes.Mode.TheVariants.{Fifo};
 ghost use Rattle.line_moves.specs.Openings.{left_open, marker_at, newly_closed, open_number};
 ghost use Rattle.line_moves.specs.Openings.{AreMarkers, IsFresh, IsOnlyOpen, IsRecording, OpenView};
 ghost use Rattle.line_moves.specs.Fates.{is_forced};
@@ -14,8 +14,8 @@ ghost use Rattle.line_moves.specs.Fates.{is_forced};
 use crate::listings::Listing;
 use crate::recorders::Recorder;
 use crate::rounds::Round;
-use line_colours::Turning;
 use line_names::{MOST_PROCESSES, MsgName, ProcId};
+use line_rounds::Turning;
 use line_tape::{History, LAST_ROUND};
 use std::alloc::{AllocError, Global};
 use std::marker::Model;

@@ -3,9 +3,9 @@ ghost use Rattle.std.specs.Prelude.{◌≡◌, ◌≢◌, ◌<◌, ◌≤◌, �
 ghost use Rattle.std.specs.Prelude.{slice_index_or, length, MatchOption, OnOk, OnErr};
 ghost use Rattle.std.specs.Option.{unwrap_or};
 ghost use Rattle.line_names.specs.Sets.{is_member};
-ghost use Rattle.line_marker.specs.Recording.{channel_at, messages_by, round_of, with_marker};
-ghost use Rattle.line_marker.specs.Recording.{rounds_with_message, with_round, RecordedRound};
-ghost use Rattle.line_marker.specs.Recording.{IsOver, IsSameProcess};
+ghost use Rattle.line_rounds.specs.Recording.{channel_at, messages_by, round_of, with_marker};
+ghost use Rattle.line_rounds.specs.Recording.{rounds_with_message, with_round, RecordedRound};
+ghost use Rattle.line_rounds.specs.Recording.{IsOver, IsSameProcess};
 
 use line_names::{MOST_PROCESSES, MsgName, ProcId, ProcSet};
 use std::alloc::{AllocError, Global};
@@ -98,7 +98,7 @@ const _: () = prove!(size_of::<Recorder>() == 72);
 impl Model for Recorder {
     ghost use Rattle.std.specs.Prelude.{◌≤◌, length};
     ghost use Rattle.line_names.specs.declared.limits.TheConstants.{MOST_PROCESSES};
-    ghost use Rattle.line_marker.specs.Recording.{MarkerView};
+    ghost use Rattle.line_rounds.specs.Recording.{MarkerView};
     ghost use Rattle.line_moves.specs.Recorders.{rounds_noted, IsUnheard};
 
     ghost Value = { MarkerView };

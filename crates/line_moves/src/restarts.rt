@@ -3,7 +3,7 @@ ghost use Rattle.std.specs.Prelude.{◌≡◌, ◌<◌, ◌++◌, ℕ, filter, m
 ghost use Rattle.std.specs.Prelude.{OnErr};
 ghost use Rattle.line_tape.specs.declared.items.Item.TheVariants.{Message};
 ghost use Rattle.line_tape.specs.Transit.{goes_between, in_transit, in_transit_between};
-ghost use Rattle.line_colours.specs.Tables.{between};
+ghost use Rattle.line_rounds.specs.Tables.{between};
 ghost use Rattle.line_moves.specs.Rooms.{items_held, AreCountedOnQueues, AreUncounted};
 ghost use Rattle.line_moves.specs.Rooms.{HaveRoom};
 ghost use Rattle.line_moves.specs.Worlds.{AreQueues};

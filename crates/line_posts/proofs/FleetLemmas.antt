@@ -5,7 +5,7 @@ use Rattle.std.specs.Prelude.{slice_get, option_map}
 use Rattle.std.proofs.lemmas.List.{length-map, length-drop, length-replicate, length_push}
 use Rattle.std.proofs.lemmas.List.{get_or-replicate}
 use Rattle.std.proofs.lemmas.Option.{slice_get_within}
-use Rattle.line_marker.specs.Recording.{RecordedRound}
+use Rattle.line_rounds.specs.Recording.{RecordedRound}
 use Rattle.line_tape.specs.declared.events.Event.{Event}
 use Rattle.line_tape.specs.History.{Process, fresh, tape_at}
 use Rattle.line_tape.proofs.EventLemmas.{tape_start}

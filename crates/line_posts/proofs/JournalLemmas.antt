@@ -5,14 +5,14 @@ use Rattle.std.specs.Prelude.{Contains, slice_index_or, slice_set, ◌||◌, All
 use Rattle.std.specs.Prelude.{nat_lt, Result, Ok, Err, IfOk, OnOk, OnErr, IsErrOf, ◌↔◌}
 use Rattle.std.proofs.lemmas.Bool.{cases_eq, eq-eqb, ne_eqb, lt-ltb, le-ltb}
 use Rattle.std.proofs.lemmas.List.Elements.{All-nil, All-head, All-tail}
-use Rattle.line_marker.specs.Recording.{Channel, MarkerView, RecordedRound, open_channel}
-use Rattle.line_marker.specs.Recording.{channel_at, with_channel, with_marker, with_round, round_of}
-use Rattle.line_marker.specs.Recording.{latest, effect_by, effect_of, rounds_after, IsRepeated}
-use Rattle.line_marker.specs.Recording.{IsSameProcess}
-use Rattle.line_marker.specs.declared.markers.Effect.{Effect}
-use Rattle.line_marker.specs.declared.markers.Effect.TheVariants.{Closed, Forced, Ignored}
-use Rattle.line_marker.specs.declared.errors.MarkerError.{MarkerError}
-use Rattle.line_marker.specs.declared.errors.MarkerError.TheVariants.{OutOfMemory, MarkerRepeated}
+use Rattle.line_rounds.specs.Recording.{Channel, MarkerView, RecordedRound, open_channel}
+use Rattle.line_rounds.specs.Recording.{channel_at, with_channel, with_marker, with_round, round_of}
+use Rattle.line_rounds.specs.Recording.{latest, effect_by, effect_of, rounds_after, IsRepeated}
+use Rattle.line_rounds.specs.Recording.{IsSameProcess}
+use Rattle.line_rounds.specs.declared.markers.Effect.{Effect}
+use Rattle.line_rounds.specs.declared.markers.Effect.TheVariants.{Closed, Forced, Ignored}
+use Rattle.line_rounds.specs.declared.errors.MarkerError.{MarkerError}
+use Rattle.line_rounds.specs.declared.errors.MarkerError.TheVariants.{OutOfMemory, MarkerRepeated}
 use Rattle.line_tape.specs.declared.events.Event.{Event}
 use Rattle.line_tape.specs.declared.events.Event.TheVariants.{Check, Mark}
 use Rattle.line_tape.specs.Rounds.{has_check_of, has_mark_of, rounds_checked}

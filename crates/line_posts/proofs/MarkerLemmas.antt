@@ -12,7 +12,7 @@ use Rattle.rtrb.specs.declared.producer.Producer.{Producer}
 use Rattle.line_posts.specs.Ends.{End, items_at, ring_at, row_at, with_item, with_items, out_ends}
 use Rattle.line_posts.specs.Ends.{producer_end}
 use Rattle.line_posts.proofs.EndLemmas.{length_item, items_same, items_other}
-use Rattle.line_marker.specs.Recording.{RecordedRound}
+use Rattle.line_rounds.specs.Recording.{RecordedRound}
 use Rattle.line_tape.specs.declared.events.Event.{Event}
 use Rattle.line_tape.specs.declared.events.Event.TheVariants.{Check, Mark}
 use Rattle.line_tape.specs.declared.items.Item.{Item}

@@ -14,7 +14,7 @@ use Rattle.line_posts.specs.Ends.{End, StillKnow, consumer_end, in_ends, items_a
 use Rattle.line_posts.specs.Ends.{known_rows, row_at, with_item}
 use Rattle.line_posts.proofs.EndLemmas.{knows_more, length_item, items_same, items_other}
 use Rattle.line_posts.proofs.EndLemmas.{prefix_self, still_rows, taken_still}
-use Rattle.line_marker.specs.Recording.{RecordedRound}
+use Rattle.line_rounds.specs.Recording.{RecordedRound}
 use Rattle.line_tape.specs.declared.events.Event.{Event}
 use Rattle.line_tape.specs.declared.events.Event.TheVariants.{Recv}
 use Rattle.line_tape.specs.declared.items.Item.{Item}

@@ -9,9 +9,9 @@ use Rattle.std.proofs.lemmas.List.{append-nil, length-set, length-replicate, get
 use Rattle.std.proofs.lemmas.List.{get_or-set_other}
 use Rattle.std.proofs.lemmas.List.Elements.{All-nil, All-cons, All-head, All-tail, All-append}
 use Rattle.line_names.specs.declared.messages.MsgName.{MsgName}
-use Rattle.line_marker.specs.Recording.{Channel, RecordedRound, open_channel, channel_at}
-use Rattle.line_marker.specs.Recording.{with_channel, with_marker, with_round, with_message}
-use Rattle.line_marker.specs.Recording.{rounds_with_message, round_of, latest}
+use Rattle.line_rounds.specs.Recording.{Channel, RecordedRound, open_channel, channel_at}
+use Rattle.line_rounds.specs.Recording.{with_channel, with_marker, with_round, with_message}
+use Rattle.line_rounds.specs.Recording.{rounds_with_message, round_of, latest}
 use Rattle.line_tape.specs.declared.events.Event.{Event}
 use Rattle.line_tape.specs.declared.events.Event.TheVariants.{Send, Recv, Check, Mark}
 use Rattle.line_tape.specs.Rounds.{has_check_of, has_mark_of, channel_on, is_check_of, is_mark_of}

@@ -3,7 +3,7 @@ use Rattle.std.proofs.Common.{◌≡◌, ℕ, zero, suc, ◌+◌, true, false, L
 use Rattle.std.proofs.Common.{Some, None, refl, sym, ap, ◌∙◌, arith}
 use Rattle.std.specs.Prelude.{is_some, take, slice_get, ◌||◌, MatchOption}
 use Rattle.line_names.specs.declared.messages.MsgName.{MsgName}
-use Rattle.line_marker.specs.Recording.{RecordedRound, round_of, messages_by}
+use Rattle.line_rounds.specs.Recording.{RecordedRound, round_of, messages_by}
 use Rattle.line_tape.specs.declared.events.Event.{Event}
 use Rattle.line_tape.specs.Rounds.{has_check_of, is_check_of}
 use Rattle.std.proofs.lemmas.Option.{same_Some}

@@ -8,7 +8,7 @@ use Rattle.std.specs.Prelude.{slice_get, Contains}
 use Rattle.std.specs.List.{filter_map}
 use Rattle.std.proofs.lemmas.List.{append_assoc, append-nil, map-append}
 use Rattle.std.proofs.lemmas.List.Elements.{All-push, filter_map-append}
-use Rattle.line_marker.specs.Recording.{RecordedRound}
+use Rattle.line_rounds.specs.Recording.{RecordedRound}
 use Rattle.line_tape.specs.declared.events.Event.{Event}
 use Rattle.line_tape.specs.declared.events.Event.TheVariants.{Send, Recv, Check, Mark}
 use Rattle.line_tape.specs.declared.items.Item.{Item}

@@ -1,9 +1,9 @@
 -- What a worker has recorded of rounds, beside its tape.
 use Rattle.std.specs.Prelude.{◌≡◌, ◌≢◌, ℕ, ◌<◌, ◌≤◌, true, false, if◌then◌else◌, nat_lt, IsTrue}
 use Rattle.std.specs.Prelude.{List, MatchOption, length, Some, None, All}
-use Rattle.line_marker.specs.Recording.{Channel, RecordedRound, channel_at, latest}
-use Rattle.line_marker.specs.Recording.{rounds_with_message, with_marker}
-use Rattle.line_marker.specs.Recording.{with_round, round_of}
+use Rattle.line_rounds.specs.Recording.{Channel, RecordedRound, channel_at, latest}
+use Rattle.line_rounds.specs.Recording.{rounds_with_message, with_marker}
+use Rattle.line_rounds.specs.Recording.{with_round, round_of}
 use Rattle.line_tape.specs.declared.events.Event.{Event}
 use Rattle.line_tape.specs.declared.events.Event.TheVariants.{Send, Recv, Check, Mark}
 use Rattle.line_tape.specs.Rounds.{channel_on, has_check_of, has_mark_of}

@@ -1,6 +1,6 @@
 -- Rounds at a worker (Chandy and Lamport, ACM TOCS 3(1), 1985): markers go out with its check.
 use Rattle.std.specs.Prelude.{ℕ, zero, suc, List, [], ◌∷◌, ◌++◌, length, map, Some}
-use Rattle.line_marker.specs.Recording.{RecordedRound}
+use Rattle.line_rounds.specs.Recording.{RecordedRound}
 use Rattle.line_tape.specs.declared.events.Event.{Event}
 use Rattle.line_tape.specs.declared.events.Event.TheVariants.{Check, Mark}
 use Rattle.line_posts.specs.Ends.{End, with_item, with_items}

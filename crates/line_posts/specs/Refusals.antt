@@ -1,7 +1,7 @@
 -- Why a call of a worker is refused, in the order of the causes.
 use Rattle.std.specs.Prelude.{◌≡◌, ◌≢◌, ◌<◌, ◌≤◌, ◌+◌, ◌∷◌, ◌++◌, ℕ, suc, List, [], length, false}
 use Rattle.std.specs.Prelude.{if◌then◌else◌}
-use Rattle.line_marker.specs.Recording.{latest}
+use Rattle.line_rounds.specs.Recording.{latest}
 use Rattle.line_tape.specs.declared.limits.TheConstants.{LAST_ROUND, MOST_EVENTS, MOST_STATE}
 use Rattle.line_tape.specs.Rounds.{has_check_of}
 use Rattle.line_posts.specs.Ends.{row_at, HasFilled, IsFilled}

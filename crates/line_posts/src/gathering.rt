@@ -2,7 +2,7 @@
 ghost use Rattle.std.specs.Prelude.{◌≡◌, ◌≢◌, ◌<◌, ◌≤◌, ◌+◌, ◌↔◌, ℕ, IfOk, IfErr, IsErrOf, IsTrue};
 ghost use Rattle.std.specs.Prelude.{OnOk, OnErr, Some};
 ghost use Rattle.std.specs.Prelude.{length, slice_get, slice_index_or, vec_len};
-ghost use Rattle.line_marker.specs.Recording.{latest};
+ghost use Rattle.line_rounds.specs.Recording.{latest};
 ghost use Rattle.line_names.specs.Lines.{IsNowhereLater};
 ghost use Rattle.line_names.specs.declared.choices.Choice.TheVariants.{Check as AtCheck};
 ghost use Rattle.line_tape.specs.Chain.{IsChain};

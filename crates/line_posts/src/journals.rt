@@ -1,7 +1,7 @@
 //! A tape, and what its process has recorded of rounds beside it.
 ghost use Rattle.std.specs.Prelude.{◌≡◌, ◌≢◌, ◌<◌, ◌≤◌, ◌+◌, ◌↔◌, ◌++◌, ◌∷◌, [], ℕ, IfOk, IsOk};
 ghost use Rattle.std.specs.Prelude.{OnOk, OnErr, IsTrue, Some, None, true, false, length};
-ghost use Rattle.line_marker.specs.Recording.{latest, rounds_with_message, with_marker, with_round};
+ghost use Rattle.line_rounds.specs.Recording.{latest, rounds_with_message, with_marker, with_round};
 ghost use Rattle.line_tape.specs.declared.events.Event.TheVariants.{Send, Recv, Check, Mark};
 ghost use Rattle.line_tape.specs.History.{IsTape};
 ghost use Rattle.line_tape.specs.Event.{sends};
@@ -9,8 +9,8 @@ ghost use Rattle.line_tape.specs.Rounds.{has_check_of, rounds_checked};
 ghost use Rattle.line_posts.specs.Journals.{rounds_by, IsOpen, IsRecorded, IsSameJournal};
 
 use crate::round_checks::{has_check, round_event};
-use line_marker::Marker;
 use line_names::{Body, MsgName, ProcId};
+use line_rounds::Marker;
 use line_tape::{Event, MOST_EVENTS, MOST_STATE, State, Tape};
 use std::alloc::{AllocError, Global};
 use std::marker::Model;

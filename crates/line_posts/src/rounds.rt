@@ -1,6 +1,6 @@
 //! Rounds at a worker.
 ghost use Rattle.std.specs.Prelude.{◌≡◌, ◌<◌, ◌≤◌, ◌+◌, false, IfOk, IfErr, OnOk, OnErr, length};
-ghost use Rattle.line_marker.specs.Recording.{latest};
+ghost use Rattle.line_rounds.specs.Recording.{latest};
 ghost use Rattle.line_tape.specs.Rounds.{has_check_of};
 ghost use Rattle.line_posts.specs.Ends.{out_ends, HasRoomBelow};
 ghost use Rattle.line_posts.specs.Journals.{IsOpen, IsRecorded, IsSameJournal};
@@ -15,8 +15,8 @@ use crate::parcels::Parcel;
 use crate::posts::Post;
 use crate::refusals::BeginWhy;
 use crate::rooms::has_room;
-use line_marker::Marker;
 use line_names::ProcId;
+use line_rounds::Marker;
 use line_tape::{LAST_ROUND, MOST_EVENTS, MOST_STATE, State};
 use rtrb::Producer;
 

@@ -11,10 +11,10 @@ use Rattle.line_fields.specs.Fields.{◌>>=◌, digit, hex, num, want}
 use Rattle.line_fields.specs.Bytes.{is_input_text}
 use Rattle.line_fields.specs.Records.{Record, field, records_of_text}
 use Rattle.line_fields.specs.Shapes.{Reader, alone, four, three, two}
-use Rattle.line_steps.specs.declared.modes.Mode.TheVariants.{Fifo, Unordered}
-use Rattle.line_steps.specs.declared.steps.Step.{Step}
-use Rattle.line_steps.specs.declared.steps.Step.TheVariants.{Begin, Check, Damage, Bar, Recover}
-use Rattle.line_steps.specs.declared.steps.Step.TheVariants.{Turn}
+use Rattle.line_tape.specs.declared.modes.Mode.TheVariants.{Fifo, Unordered}
+use Rattle.line_tape.specs.declared.steps.Step.{Step}
+use Rattle.line_tape.specs.declared.steps.Step.TheVariants.{Begin, Check, Damage, Bar, Recover}
+use Rattle.line_tape.specs.declared.steps.Step.TheVariants.{Turn}
 use Rattle.line_claims.specs.declared.faults.TextFault.{TextFault}
 use Rattle.line_claims.specs.declared.versions.TheConstants.{LAST_VERSION}
 use Rattle.line_claims.specs.Numbers.{numbers, plain, round}

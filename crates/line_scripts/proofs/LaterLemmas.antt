@@ -8,7 +8,7 @@ use Rattle.line_fields.specs.declared.faults.Fault.TheVariants as faults
 use Rattle.line_fields.specs.Bytes.{is_input_text}
 use Rattle.line_fields.specs.Fields.{◌>>=◌, num, want}
 use Rattle.line_fields.specs.Records.{Record, cut, field, parts, records_of_lines, without}
-use Rattle.line_steps.specs.declared.modes.Mode.{Mode}
+use Rattle.line_tape.specs.declared.modes.Mode.{Mode}
 use Rattle.line_claims.specs.declared.faults.TextFault.{TextFault}
 use Rattle.line_claims.specs.declared.versions.TheConstants.{LAST_VERSION, MOST_IN_FIRST_VERSION}
 use Rattle.line_claims.specs.Numbers.{plain}

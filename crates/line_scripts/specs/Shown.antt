@@ -1,5 +1,5 @@
 -- The command that is asked for with what it carries lent.
-use Rattle.line_steps.specs.Shown as steps
+use Rattle.line_tape.specs.StepShown as steps
 use Rattle.line_scripts.specs.declared.commands.Command.{Command}
 use Rattle.line_scripts.specs.declared.commands.Command.TheVariants.{Bundle, Do, History, Refused}
 use Rattle.line_scripts.specs.declared.commands.Command.TheVariants.{Answer, Forget, Live, Plan}

@@ -17,7 +17,7 @@ ghost use Rattle.line_scripts.specs.RunScripts.{Saved, processes_of};
 use crate::commands::world_of;
 use line_claims::{SavedReader, SavedText, TextError, TextFault, fault_at};
 use line_fields::{Fault, FieldRow};
-use line_steps::Mode;
+use line_tape::Mode;
 use std::alloc::Global;
 use std::mem;
 

@@ -17,7 +17,7 @@ use crate::names::{Name, name_in};
 use line_claims::{LAST_VERSION, most_in, plain, want};
 use line_fields::{Fault, FieldRow, ReadError};
 use line_names::ProcSet;
-use line_steps::{Mode, Step, StepRef};
+use line_tape::{Mode, Step, StepRef};
 use std::alloc::Global;
 
 /// What a record of a script asks for.

@@ -7,7 +7,7 @@ ghost use Rattle.line_scripts.specs.Shown.{HasShortBodyInStep, command_of_ref};
 
 use crate::commands::CommandRef;
 use line_names::{MOST_PROCESSES, ProcId, ProcSet};
-use line_steps::StepRef;
+use line_tape::StepRef;
 use std::mem::size_of;
 
 /// A command without the bytes that a message or a state has. Of these it says how many they are.

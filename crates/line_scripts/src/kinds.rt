@@ -6,7 +6,7 @@ ghost use Rattle.line_fields.specs.declared.faults.Fault.TheVariants as faults;
 ghost use Rattle.line_fields.specs.Faults.{code_of};
 ghost use Rattle.line_fields.specs.Fields.{Gives, hex};
 ghost use Rattle.line_fields.specs.Shapes.{alone};
-ghost use Rattle.line_steps.specs.declared.steps.Step.{Step};
+ghost use Rattle.line_tape.specs.declared.steps.Step.{Step};
 ghost use Rattle.line_scripts.specs.declared.commands.Command.{Command};
 ghost use Rattle.line_scripts.specs.Keeping.{HasShortMessage, behind, long_of, of_found};
 ghost use Rattle.line_scripts.specs.Keeping.{with_bytes};

@@ -9,7 +9,7 @@ ghost use Rattle.line_claims.specs.Reads.{IsOfText, Reads, fault_of_record, no_m
 ghost use Rattle.line_scripts.specs.Reads.{IsKeptMachine, IsOfScript, kept_script_view};
 ghost use Rattle.line_scripts.specs.Reads.{script_view};
 ghost use Rattle.line_scripts.specs.RunScripts.{read_as_run, run_script_of_text};
-ghost use Rattle.line_steps.specs.Shown as steps;
+ghost use Rattle.line_tape.specs.StepShown as steps;
 
 use crate::beginnings::KeptMachine;
 use crate::blocks::Commands;
@@ -18,8 +18,7 @@ use crate::pieces::ScriptReader;
 use line_claims::{TextError, TextFault, told};
 use line_fields::{Fault, FieldRow, RecordReader, is_plain};
 use line_names::Body;
-use line_steps::{Mode, Step, StepRef};
-use line_tape::State;
+use line_tape::{Mode, State, Step, StepRef};
 use std::alloc::{AllocError, Global};
 
 /// What a text asks of a machine.

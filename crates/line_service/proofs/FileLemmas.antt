@@ -1,15 +1,15 @@
 -- The text of a saved machine that is read line by line.
 use Rattle.std.proofs.Common.{◌≡◌, ◌⊎◌, ◌∙◌, ℕ, true, List, [], ◌∷◌, sym, ap, inl, inr, refl, subst}
 use Rattle.std.specs.Prelude.{map, Result, Ok, Err}
-use Rattle.line_answers.specs.declared.openings.OpenError.{OpenError}
-use Rattle.line_answers.specs.declared.openings.OpenError.TheVariants as causes
-use Rattle.line_answers.specs.Openings.{open_code, open_fault, IsUnopened}
+use Rattle.line_text.specs.declared.openings.OpenError.{OpenError}
+use Rattle.line_text.specs.declared.openings.OpenError.TheVariants as causes
+use Rattle.line_text.specs.Openings.{open_code, open_fault, IsUnopened}
 use Rattle.line_claims.specs.declared.faults.TextError.TheVariants as text_errors
 use Rattle.line_claims.specs.declared.faults.TextFault.{TextFault}
 use Rattle.line_claims.specs.Reads.{fault_of_error, fault_of_record, no_memory}
 use Rattle.line_claims.specs.Saved.{SavedParts, saved_alone, saved_of, saved_of_text}
-use Rattle.line_conversations.specs.Conversations.{records_of}
-use Rattle.line_conversations.specs.Rules.{HearsAll}
+use Rattle.line_text.specs.Conversations.{records_of}
+use Rattle.line_text.specs.Rules.{HearsAll}
 use Rattle.line_fields.specs.declared.faults.Fault.{Fault}
 use Rattle.line_fields.specs.declared.faults.Fault.TheVariants as faults
 use Rattle.line_fields.specs.Bytes.{is_input_text}

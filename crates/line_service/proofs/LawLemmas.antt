@@ -4,22 +4,22 @@ use Rattle.std.proofs.Common.{length, refl, sym, ap, ◌∙◌, subst}
 use Rattle.std.specs.Prelude.{None, Some, Result, Ok, Err, map, if◌then◌else◌}
 use Rattle.std.specs.List.{flat_map}
 use Rattle.std.proofs.lemmas.List.{length-replicate}
-use Rattle.line_answers.specs.Answers.{CommandAnswer, Tells, TellsAll, is_refused}
-use Rattle.line_answers.specs.Answers.{command_answer_records}
+use Rattle.line_text.specs.Answers.{CommandAnswer, Tells, TellsAll, is_refused}
+use Rattle.line_text.specs.Answers.{command_answer_records}
 use Rattle.line_claims.specs.declared.faults.TextError.{TextError}
 use Rattle.line_claims.specs.declared.faults.TextFault.{TextFault}
 use Rattle.line_claims.specs.Reads.{at_record}
-use Rattle.line_conversations.specs.declared.outcomes.Outcome.{Outcome}
-use Rattle.line_conversations.specs.declared.outcomes.Outcome.TheVariants as outcomes
-use Rattle.line_conversations.specs.Conversations.{records_of}
-use Rattle.line_conversations.specs.Rules.{HearsAll, worse, worst}
-use Rattle.line_conversations.proofs.HeardLemmas.{worse_faulted}
+use Rattle.line_text.specs.declared.outcomes.Outcome.{Outcome}
+use Rattle.line_text.specs.declared.outcomes.Outcome.TheVariants as outcomes
+use Rattle.line_text.specs.Conversations.{records_of}
+use Rattle.line_text.specs.Rules.{HearsAll, worse, worst}
+use Rattle.line_text.proofs.HeardLemmas.{worse_faulted}
 use Rattle.line_fields.specs.declared.faults.Fault.{Fault}
 use Rattle.line_fields.specs.declared.faults.ReadError.{ReadError}
 use Rattle.line_fields.specs.Bytes.{is_input_text}
 use Rattle.line_fields.specs.Fields.{◌>>=◌}
 use Rattle.line_fields.specs.Records.{Record, records_of_text}
-use Rattle.line_steps.specs.declared.modes.Mode.{Mode}
+use Rattle.line_tape.specs.declared.modes.Mode.{Mode}
 use Rattle.line_scripts.specs.declared.commands.Command.{Command}
 use Rattle.line_scripts.specs.Scripts.{Script, command_in, commands_from, script_of, script_of_text}
 use Rattle.line_scripts.specs.Scripts.{world_of}

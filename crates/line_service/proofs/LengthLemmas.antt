@@ -3,8 +3,8 @@ use Rattle.std.proofs.Common.{◌≡◌, ℕ, ◌+◌, List, [], ◌∷◌, leng
 use Rattle.std.specs.Prelude.{Bool, Option, None, Some}
 use Rattle.std.proofs.lemmas.List.FromFn.{length-map-range_with_len}
 use Rattle.std.proofs.Math.ListN.{length-set}
-use Rattle.line_answers.specs.Answers.{CommandAnswer, Answered, Refused, Listing, Shown, Claimed}
-use Rattle.line_answers.specs.Answers.{Planned, Judged, Forgot, Saved, Forgets, Tells}
+use Rattle.line_text.specs.Answers.{CommandAnswer, Answered, Refused, Listing, Shown, Claimed}
+use Rattle.line_text.specs.Answers.{Planned, Judged, Forgot, Saved, Forgets, Tells}
 use Rattle.line_cuts.specs.Cuts.{Floor, cut_tape}
 use Rattle.line_live.specs.CutMachines.{cut_step}
 use Rattle.line_live.specs.Lives.{LetsGo, LiveMachine, TakesUnless, floor_refusal}
@@ -22,8 +22,8 @@ use Rattle.line_world.specs.declared.replies.Answer.TheVariants as answers
 use Rattle.line_world.specs.declared.replies.StepError.{StepError}
 use Rattle.line_world.specs.declared.replies.Reply.{Reply}
 use Rattle.line_world.specs.declared.replies.Reply.TheVariants.{Recovered}
-use Rattle.line_steps.specs.declared.steps.Step.{Step}
-use Rattle.line_steps.specs.declared.steps.Step.TheVariants as steps
+use Rattle.line_tape.specs.declared.steps.Step.{Step}
+use Rattle.line_tape.specs.declared.steps.Step.TheVariants as steps
 use Rattle.line_world.specs.Machine.{Machine}
 use Rattle.line_world.specs.Runs.{Takes}
 use Rattle.line_world.specs.Steps.{Does, RecoversWith}

@@ -2,11 +2,11 @@
 use Rattle.std.proofs.Common.{◌≡◌, ℕ, Bool, cond, List, [], ◌∷◌, ◌++◌, append_assoc, length, refl}
 use Rattle.std.proofs.Common.{ap, ◌∙◌, subst}
 use Rattle.std.specs.Prelude.{Option, Ok}
-use Rattle.line_answers.specs.Answers.{DoesCommand, DoesFront, command_answer_records}
-use Rattle.line_conversations.specs.declared.outcomes.Outcome.{Outcome}
-use Rattle.line_conversations.specs.declared.outcomes.Outcome.TheVariants as outcomes
-use Rattle.line_conversations.specs.Answers.{AnswersOne, PutsAnswersFront}
-use Rattle.line_conversations.proofs.HeardLemmas.{one_front}
+use Rattle.line_text.specs.Answers.{DoesCommand, DoesFront, command_answer_records}
+use Rattle.line_text.specs.declared.outcomes.Outcome.{Outcome}
+use Rattle.line_text.specs.declared.outcomes.Outcome.TheVariants as outcomes
+use Rattle.line_text.specs.Answerers.{AnswersOne, PutsAnswersFront}
+use Rattle.line_text.proofs.HeardLemmas.{one_front}
 use Rattle.line_devices.specs.Devices.{PutsFront}
 use Rattle.line_devices.proofs.PutLemmas.{front_of_front}
 use Rattle.line_fields.specs.Records.{Record}

@@ -5,9 +5,9 @@ use Rattle.std.specs.Prelude.{None, Some, Result, Ok, Err, codes}
 use Rattle.line_claims.specs.declared.faults.TextFault.{TextFault}
 use Rattle.line_claims.specs.Parts.{Part, is_named}
 use Rattle.line_claims.specs.Reads.{at_record, fault_of_record}
-use Rattle.line_conversations.specs.declared.outcomes.Outcome.{Outcome}
-use Rattle.line_conversations.specs.declared.outcomes.Outcome.TheVariants as outcomes
-use Rattle.line_conversations.specs.Rules.{HearsAll, worse, worst}
+use Rattle.line_text.specs.declared.outcomes.Outcome.{Outcome}
+use Rattle.line_text.specs.declared.outcomes.Outcome.TheVariants as outcomes
+use Rattle.line_text.specs.Rules.{HearsAll, worse, worst}
 use Rattle.line_fields.specs.declared.faults.Fault.{Fault}
 use Rattle.line_fields.specs.declared.faults.Fault.TheVariants as faults
 use Rattle.line_fields.specs.Fields.{◌>>=◌, want}
@@ -16,7 +16,7 @@ use Rattle.line_live.specs.Lives.{LiveMachine}
 use Rattle.line_claims.specs.Saved.{SavedParts, saved_of}
 use Rattle.line_claims.specs.SavedReadings.{SavedPlace, is_whole, saved_left}
 use Rattle.line_claims.proofs.SavedLemmas.{part_missing}
-use Rattle.line_answers.specs.Openings.{opened}
+use Rattle.line_text.specs.Openings.{opened}
 use Rattle.line_service.specs.Services.{ServiceAnswer, Began, Dropped, Faulted, Replied}
 use Rattle.line_service.specs.Services.{ServiceState, Empty, Has, Reads, outcome_of, service_rules}
 use Rattle.line_service.proofs.LawLemmas.{dropped_first, faulted_first, heard_records}

@@ -4,18 +4,18 @@ use Rattle.std.proofs.Common.{◌++◌, length, replicate, refl, sym, ap, ◌∙
 use Rattle.std.specs.Prelude.{None, Some, Result, Ok, Err, codes, map, if◌then◌else◌}
 use Rattle.std.specs.List.{flat_map}
 use Rattle.std.proofs.lemmas.Bool.{cases_Bool}
-use Rattle.line_answers.specs.Answers.{CommandAnswer, TellsAll, command_answer_records}
-use Rattle.line_answers.specs.Openings.{opened}
+use Rattle.line_text.specs.Answers.{CommandAnswer, TellsAll, command_answer_records}
+use Rattle.line_text.specs.Openings.{opened}
 use Rattle.line_claims.specs.declared.faults.TextFault.{TextFault}
 use Rattle.line_claims.specs.Parts.{Part, is_named}
 use Rattle.line_claims.specs.Reads.{at_record, fault_of_record}
 use Rattle.line_claims.specs.Saved.{SavedParts, saved_of}
 use Rattle.line_claims.specs.SavedReadings.{SavedPlace, is_whole, saved_left}
 use Rattle.line_claims.proofs.SavedLemmas.{part_missing}
-use Rattle.line_conversations.specs.declared.outcomes.Outcome.{Outcome}
-use Rattle.line_conversations.specs.declared.outcomes.Outcome.TheVariants as outcomes
-use Rattle.line_conversations.specs.Conversations.{records_of}
-use Rattle.line_conversations.specs.Rules.{HearsAll, worse, worst}
+use Rattle.line_text.specs.declared.outcomes.Outcome.{Outcome}
+use Rattle.line_text.specs.declared.outcomes.Outcome.TheVariants as outcomes
+use Rattle.line_text.specs.Conversations.{records_of}
+use Rattle.line_text.specs.Rules.{HearsAll, worse, worst}
 use Rattle.line_fields.specs.declared.faults.Fault.{Fault}
 use Rattle.line_fields.specs.declared.faults.Fault.TheVariants as faults
 use Rattle.line_fields.specs.Bytes.{is_input_text}
@@ -28,7 +28,7 @@ use Rattle.line_scripts.specs.RunScripts.{run_script_of_text, saved_first, scrip
 use Rattle.line_scripts.specs.RunScripts.{script_of_machine}
 use Rattle.line_scripts.specs.Scripts.{commands_from, world_of}
 use Rattle.line_scripts.proofs.RunScriptLemmas.{run_none, run_saved, run_world}
-use Rattle.line_steps.specs.declared.modes.Mode.{Mode}
+use Rattle.line_tape.specs.declared.modes.Mode.{Mode}
 use Rattle.line_service.specs.Services.{ServiceAnswer, Began, Dropped, Faulted, Replied}
 use Rattle.line_service.specs.Services.{ServiceState, Empty, Has, Reads, IsSavedRunOf, outcome_of}
 use Rattle.line_service.specs.Services.{service_answer_records, service_rules}

@@ -6,14 +6,14 @@ use Rattle.std.specs.Str.{bytes_eq}
 use Rattle.std.proofs.lemmas.Bool.{cases_Bool}
 use Rattle.std.proofs.lemmas.List.{append-nil}
 use Rattle.std.proofs.lemmas.Slice.Eq.{bytes_eq-Decides}
-use Rattle.line_answers.specs.declared.openings.OpenError.{OpenError}
-use Rattle.line_answers.specs.Openings.{IsUnopened}
+use Rattle.line_text.specs.declared.openings.OpenError.{OpenError}
+use Rattle.line_text.specs.Openings.{IsUnopened}
 use Rattle.line_claims.specs.declared.faults.TextError.{TextError}
 use Rattle.line_claims.specs.declared.faults.TextFault.{TextFault}
 use Rattle.line_claims.specs.Parts.{Part, is_named}
-use Rattle.line_conversations.specs.Answers.{PutsAnswersFront}
-use Rattle.line_conversations.specs.Rules.{fault_record}
-use Rattle.line_conversations.proofs.HeardLemmas.{one_front}
+use Rattle.line_text.specs.Answerers.{PutsAnswersFront}
+use Rattle.line_text.specs.Rules.{fault_record}
+use Rattle.line_text.proofs.HeardLemmas.{one_front}
 use Rattle.line_devices.specs.Devices.{PutsFront}
 use Rattle.line_devices.proofs.PutLemmas.{front_of_front}
 use Rattle.line_fields.specs.declared.faults.Fault.{Fault}
@@ -22,7 +22,7 @@ use Rattle.line_fields.specs.Fields.{◌>>=◌, want}
 use Rattle.line_fields.specs.Records.{Record, field}
 use Rattle.line_fields.specs.Texts.{record_text, records_text}
 use Rattle.line_scripts.specs.Scripts.{world_of}
-use Rattle.line_steps.specs.declared.modes.Mode.{Mode}
+use Rattle.line_tape.specs.declared.modes.Mode.{Mode}
 use Rattle.line_claims.specs.declared.saved_readers.SavedStage.{SavedStage}
 use Rattle.line_claims.specs.declared.saved_readers.SavedStage.TheVariants as stages
 use Rattle.line_claims.specs.Saved.{SavedParts}

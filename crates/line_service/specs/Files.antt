@@ -1,15 +1,15 @@
 -- The text of a saved machine that is given whole, as a file has it.
 use Rattle.std.specs.Prelude.{◌≡◌, ◌⊎◌, List, [], ◌∷◌, map, Result, Ok, Err, ⊤}
-use Rattle.line_answers.specs.declared.openings.OpenError.{OpenError}
-use Rattle.line_answers.specs.Openings.{IsUnopened, open_code}
+use Rattle.line_text.specs.declared.openings.OpenError.{OpenError}
+use Rattle.line_text.specs.Openings.{IsUnopened, open_code}
 use Rattle.line_claims.specs.declared.faults.TextError.TheVariants as text_errors
 use Rattle.line_claims.specs.declared.faults.TextFault.{TextFault}
 use Rattle.line_claims.specs.Reads.{fault_of_record, no_memory}
 use Rattle.line_claims.specs.Saved.{SavedParts, saved_alone, saved_of}
 use Rattle.line_claims.specs.SavedReadings.{saved_left}
-use Rattle.line_conversations.specs.declared.outcomes.Outcome.{Outcome}
-use Rattle.line_conversations.specs.declared.outcomes.Outcome.TheVariants as outcomes
-use Rattle.line_conversations.specs.Rules.{Rules, error_code, fault_record}
+use Rattle.line_text.specs.declared.outcomes.Outcome.{Outcome}
+use Rattle.line_text.specs.declared.outcomes.Outcome.TheVariants as outcomes
+use Rattle.line_text.specs.Rules.{Rules, error_code, fault_record}
 use Rattle.line_fields.specs.declared.faults.Fault.{Fault}
 use Rattle.line_fields.specs.declared.faults.Fault.TheVariants as faults
 use Rattle.line_fields.specs.declared.faults.ReadError.{ReadError}

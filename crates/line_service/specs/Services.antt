@@ -2,24 +2,24 @@
 use Rattle.std.specs.Prelude.{◌≡◌, ◌+◌, ◌⊎◌, ℕ, List, [], ◌∷◌, length, map, Option, Some, None}
 use Rattle.std.specs.Prelude.{Result, Ok, codes, if◌then◌else◌, false, true}
 use Rattle.std.specs.Prelude.{◌++◌, ◌-◌, replicate}
-use Rattle.line_answers.specs.Answers.{CommandAnswer, Tells, TellsAll, is_refused}
-use Rattle.line_answers.specs.Answers.{command_answer_records}
-use Rattle.line_answers.specs.Openings.{IsUnopened, open_fault, opened}
-use Rattle.line_answers.specs.declared.openings.OpenError.{OpenError}
+use Rattle.line_text.specs.Answers.{CommandAnswer, Tells, TellsAll, is_refused}
+use Rattle.line_text.specs.Answers.{command_answer_records}
+use Rattle.line_text.specs.Openings.{IsUnopened, open_fault, opened}
+use Rattle.line_text.specs.declared.openings.OpenError.{OpenError}
 use Rattle.line_claims.specs.declared.faults.TextError.{TextError}
 use Rattle.line_claims.specs.declared.faults.TextError.TheVariants as text_errors
 use Rattle.line_claims.specs.Parts.{is_named}
 use Rattle.line_claims.specs.Reads.{FailsText}
 use Rattle.line_claims.specs.Saved.{SavedParts, saved_of}
 use Rattle.line_claims.specs.SavedReadings.{SavedPlace, is_whole, saved_left}
-use Rattle.line_conversations.specs.declared.outcomes.Outcome.{Outcome}
-use Rattle.line_conversations.specs.declared.outcomes.Outcome.TheVariants as outcomes
-use Rattle.line_conversations.specs.Rules.{Rules, error_code, fault_record}
+use Rattle.line_text.specs.declared.outcomes.Outcome.{Outcome}
+use Rattle.line_text.specs.declared.outcomes.Outcome.TheVariants as outcomes
+use Rattle.line_text.specs.Rules.{Rules, error_code, fault_record}
 use Rattle.line_fields.specs.declared.faults.Fault.{Fault}
 use Rattle.line_fields.specs.declared.faults.ReadError.{ReadError}
 use Rattle.line_fields.specs.Fields.{◌>>=◌, Fails}
 use Rattle.line_fields.specs.Records.{Record}
-use Rattle.line_steps.specs.declared.modes.Mode.{Mode}
+use Rattle.line_tape.specs.declared.modes.Mode.{Mode}
 use Rattle.line_scripts.specs.declared.commands.Command.{Command}
 use Rattle.line_scripts.specs.RunScripts.{RunScript}
 use Rattle.line_scripts.specs.Scripts.{Script, command_in, world_of}

@@ -1,7 +1,7 @@
 //! The text of a saved machine, as far as its lines were read.
 
 ghost use Rattle.std.specs.Prelude.{◌≡◌, ◌⊎◌, ◌∷◌, [], ℕ, List, Err, IfErr, IfOk, Ok, OnOk};
-ghost use Rattle.line_answers.specs.Openings.{opened, IsUnopened};
+ghost use Rattle.line_text.specs.Openings.{opened, IsUnopened};
 ghost use Rattle.line_claims.specs.Reads.{FailsText, no_memory};
 ghost use Rattle.line_claims.specs.Saved.{SavedParts, saved_alone};
 ghost use Rattle.line_claims.specs.SavedReadings.{saved_left};
@@ -10,12 +10,11 @@ ghost use Rattle.line_service.specs.Files.{missed_line, spelt_with, IsUnopenedTe
 ghost use Rattle.line_service.specs.Files.{Taken};
 
 use crate::texts::BegunText;
-use line_answers::open_saved;
 use line_claims::{SavedReader, TextError, TextFault, fault_at, told};
-use line_conversations::{Answerer, Outcome, Stop};
 use line_devices::Sink;
 use line_fields::{Fault, FieldRow, ReadError, RecordWriter};
 use line_live::Live;
+use line_text::{Answerer, Outcome, Stop, open_saved};
 use std::alloc::Global;
 use std::marker::Model;
 

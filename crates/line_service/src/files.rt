@@ -2,12 +2,12 @@
 
 ghost use Rattle.std.specs.Prelude.{◌≡◌, ◌≤◌, ◌+◌, ◌-◌, ◌^◌, ◌⊎◌, ℕ, List, Err, Ok, IfErr, IfOk};
 ghost use Rattle.std.specs.Prelude.{OnOk};
-ghost use Rattle.line_answers.specs.Openings.{opened};
+ghost use Rattle.line_text.specs.Openings.{opened};
 ghost use Rattle.line_claims.specs.Reads.{no_memory};
 ghost use Rattle.line_claims.specs.Saved.{SavedParts};
-ghost use Rattle.line_conversations.specs.Conversations.{records_of};
-ghost use Rattle.line_conversations.specs.Turns.{GivesText};
-ghost use Rattle.line_conversations.specs.declared.faults.ServeError.TheVariants as errors;
+ghost use Rattle.line_text.specs.Conversations.{records_of};
+ghost use Rattle.line_text.specs.Turns.{GivesText};
+ghost use Rattle.line_text.specs.declared.faults.ServeError.TheVariants as errors;
 ghost use Rattle.line_devices.specs.Devices.{one_more};
 ghost use Rattle.line_service.specs.declared.files.TheConstants.{READ_FAULT};
 ghost use Rattle.line_service.specs.Files.{saved_of_lines, IsReadOf, IsUnopenedText};
@@ -15,9 +15,9 @@ ghost use Rattle.line_service.specs.Files.{saved_of_lines, IsReadOf, IsUnopenedT
 use crate::file_reads::{FileRead, FileReader, open_read};
 use crate::nowhere::Nowhere;
 use line_claims::TextFault;
-use line_conversations::{ServeError, hear_out};
 use line_devices::Source;
 use line_live::Live;
+use line_text::{ServeError, hear_out};
 use std::alloc::Global;
 
 /// The number of the fault of a source that failed.

@@ -16,5 +16,5 @@ pub use laws::{
     saved_scripts_are_served_as_they_run, saved_texts_are_read_by_lines,
     scripts_are_served_as_they_run,
 };
-pub use line_conversations::{MOST_LINE, Outcome, ServeError};
+pub use line_text::{MOST_LINE, Outcome, ServeError};
 pub use services::{Service, serve, serve_from, serve_turn};

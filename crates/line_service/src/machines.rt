@@ -2,8 +2,8 @@
 
 ghost use Rattle.std.specs.Prelude.{◌≡◌, ◌++◌, ◌∷◌, [], Ok, Result, IfErr, IfOk, OnOk};
 ghost use Rattle.line_claims.specs.Parts.{is_named};
-ghost use Rattle.line_conversations.specs.Answers.{AnswersOne, BlamesSink, StopsOne};
-ghost use Rattle.line_conversations.specs.Rules.{fault_record};
+ghost use Rattle.line_text.specs.Answerers.{AnswersOne, BlamesSink, StopsOne};
+ghost use Rattle.line_text.specs.Rules.{fault_record};
 ghost use Rattle.line_devices.specs.Devices.{Outputs};
 ghost use Rattle.line_fields.specs.Texts.{records_text};
 ghost use Rattle.line_fields.specs.declared.faults.Fault.{Fault};
@@ -15,14 +15,13 @@ ghost use Rattle.line_service.specs.Services.{service_rules, text_error_code, wi
 ghost use Rattle.std.specs.Prelude.{codes, false, true};
 
 use crate::texts::{BegunText, begin_text, take_record};
-use line_answers::{Halt, do_command};
 use line_claims::{TextError, name_of};
-use line_conversations::{Answerer, Outcome, Stop};
 use line_devices::{DeviceFault, Sink};
 use line_fields::{Field, FieldRow, ReadError, RecordWriter, put_ending};
 use line_live::Live;
 use line_scripts::{CommandReader, world_of};
 use line_tape::CountError;
+use line_text::{Answerer, Halt, Outcome, Stop, do_command};
 use std::alloc::Global;
 use std::marker::Model;
 

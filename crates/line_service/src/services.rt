@@ -2,19 +2,19 @@
 
 ghost use Rattle.std.specs.Prelude.{◌≡◌, ◌<◌, ◌≤◌, ◌+◌, ◌-◌, ◌^◌, ◌⊎◌, ℕ, List, [], Err};
 ghost use Rattle.std.specs.Prelude.{IfOk, OnErr, OnOk, false, length};
-ghost use Rattle.line_conversations.specs.declared.faults.ServeError.TheVariants as errors;
-ghost use Rattle.line_conversations.specs.Answers.{PutsAnswersFront};
-ghost use Rattle.line_conversations.specs.Conversations.{first_standing, records_ending_in};
-ghost use Rattle.line_conversations.specs.Lines.{last_record};
-ghost use Rattle.line_conversations.specs.Turns.{GivesText, PutsAnswers, PutsLast};
-ghost use Rattle.line_conversations.specs.Turns as spec;
+ghost use Rattle.line_text.specs.declared.faults.ServeError.TheVariants as errors;
+ghost use Rattle.line_text.specs.Answerers.{PutsAnswersFront};
+ghost use Rattle.line_text.specs.Conversations.{first_standing, records_ending_in};
+ghost use Rattle.line_text.specs.Lines.{last_record};
+ghost use Rattle.line_text.specs.Turns.{GivesText, PutsAnswers, PutsLast};
+ghost use Rattle.line_text.specs.Turns as spec;
 ghost use Rattle.line_devices.specs.Devices.{IsDone, one_more};
 ghost use Rattle.line_service.specs.Services.{Empty, Has, service_rules};
 
 use crate::machines::ServedMachine;
-use line_conversations::{Conversation, Outcome, ServeError, converse, take_turn};
 use line_devices::{DeviceFault, Sink, Source};
 use line_live::Live;
+use line_text::{Conversation, Outcome, ServeError, converse, take_turn};
 use std::alloc::{AllocError, Global};
 use std::marker::Model;
 
@@ -28,7 +28,7 @@ pub struct Service {
 }
 
 impl Model for Service {
-    ghost use Rattle.line_conversations.specs.Conversations.{Standing};
+    ghost use Rattle.line_text.specs.Conversations.{Standing};
     ghost use Rattle.line_service.specs.Services.{ServiceState};
 
     ghost Value = { Standing ServiceState };

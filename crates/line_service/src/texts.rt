@@ -3,16 +3,16 @@
 ghost use Rattle.std.specs.Prelude.{◌≡◌, ◌+◌, codes, false, true, IfErr, IfOk, Ok, OnOk};
 ghost use Rattle.line_claims.specs.Parts.{is_named};
 ghost use Rattle.line_claims.specs.Stages.{Goes};
-ghost use Rattle.line_answers.specs.Openings.{opened, IsUnopened};
+ghost use Rattle.line_text.specs.Openings.{opened, IsUnopened};
 ghost use Rattle.line_claims.specs.SavedReadings.{is_whole, saved_left};
 ghost use Rattle.line_service.specs.Served.{parts_of, standing_of, IsText, IsUnended, IsWhole};
 ghost use Rattle.line_service.specs.Services.{Began, Dropped, Empty, Hears};
 
 use crate::machines::Served;
-use line_answers::{OpenError, open_saved};
 use line_claims::{SavedReader, TextError};
 use line_fields::FieldRow;
 use line_live::Live;
+use line_text::{OpenError, open_saved};
 use std::alloc::Global;
 use std::mem;
 

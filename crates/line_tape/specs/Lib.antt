@@ -23,3 +23,5 @@ pub mod Copies
 pub mod Colours
 pub mod Turns
 pub mod Marked
+pub mod Modes
+pub mod StepShown

@@ -174,6 +174,7 @@ impl<'a> EventRef<'a> {
     }
 
     /// The same event in memory of its own.
+    #[inline(always)]
     pub fn to_event(&self, alloc: Global) -> Result<Event, AllocError>
         requires { IsShort (event_of_ref self.now) }
         ensures { IfOk result (λ event. event ≡ event_of_ref self.now) }

@@ -12,10 +12,10 @@ use Rattle.line_scripts.specs.declared.commands.Command.{Command}
 use Rattle.line_devices.specs.Devices.{Puts, PutsButEnd, PutsFront}
 use Rattle.line_devices.proofs.PutLemmas.{front_of_front, holds_all, holds_more, puts_front_of_held}
 use Rattle.line_devices.proofs.PutLemmas.{puts_of_held}
-use Rattle.line_answers.specs.Answers.{DoesFront, TellsAll, CommandAnswer, refusals, text_of}
-use Rattle.line_answers.specs.Answers.{command_answer_records}
-use Rattle.line_answers.proofs.AnswerLemmas.{TellsAll-both, one_refusal, refusals-push}
-use Rattle.line_answers.proofs.AnswerLemmas.{refusals_one, text_of-append, text_of-one}
+use Rattle.line_text.specs.Answers.{DoesFront, TellsAll, CommandAnswer, refusals, text_of}
+use Rattle.line_text.specs.Answers.{command_answer_records}
+use Rattle.line_text.proofs.AnswerLemmas.{TellsAll-both, one_refusal, refusals-push}
+use Rattle.line_text.proofs.AnswerLemmas.{refusals_one, text_of-append, text_of-one}
 use Rattle.line_text.specs.declared.ends.TheConstants.{WRITE_FAULT}
 use Rattle.line_text.specs.Runs.{DoesOne, IsOfRun, IsRunTo, Runs, RunsFront, RunsText}
 use Rattle.line_text.specs.Runs.{RunsTextFront, StopsAt, StopsText, first_of}

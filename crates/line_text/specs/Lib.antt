@@ -1,3 +1,14 @@
 pub mod Inputs
 pub mod Judgings
 pub mod Runs
+pub mod Answers
+pub mod Live
+pub mod Openings
+pub mod Replies
+pub mod Rounds
+pub mod Answerers
+pub mod Conversations
+pub mod Lines
+pub mod Progress
+pub mod Rules
+pub mod Turns

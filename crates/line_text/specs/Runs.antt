@@ -8,9 +8,9 @@ use Rattle.line_live.specs.Lives.{LiveMachine, start_live}
 use Rattle.line_scripts.specs.declared.commands.Command.{Command}
 use Rattle.line_scripts.specs.RunScripts.{FirstMachine, New, RunScript, Saved}
 use Rattle.line_scripts.specs.RunScripts.{run_script_of_text}
-use Rattle.line_answers.specs.declared.openings.OpenError.{OpenError}
-use Rattle.line_answers.specs.Openings.{IsUnopened, open_fault, opened}
-use Rattle.line_answers.specs.Answers.{DoesCommand, TellsAll, CommandAnswer, refusals, text_of}
+use Rattle.line_text.specs.declared.openings.OpenError.{OpenError}
+use Rattle.line_text.specs.Openings.{IsUnopened, open_fault, opened}
+use Rattle.line_text.specs.Answers.{DoesCommand, TellsAll, CommandAnswer, refusals, text_of}
 use Rattle.line_text.specs.declared.engines.RunStop.{RunStop}
 use Rattle.line_text.specs.declared.engines.RunStop.TheVariants as stops
 

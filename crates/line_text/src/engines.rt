@@ -13,16 +13,17 @@ ghost use Rattle.line_scripts.specs.RunScripts.{run_script_of_text};
 ghost use Rattle.line_text.specs.Inputs.{HearsEnd};
 ghost use Rattle.line_text.specs.Runs as spec;
 
+use crate::commands::do_command;
 use crate::ends::{WRITE_FAULT, fault_of_code, put};
+use crate::halts::Halt;
+use crate::openings::open_saved;
 use crate::windows::read_lines;
-use line_answers::{Halt, do_command, open_saved};
 use line_claims::{TextFault, told};
 use line_devices::{Sink, Source};
 use line_fields::RecordWriter;
 use line_live::Live;
 use line_scripts::{Commands, KeptMachine, KeptScript, ScriptReader};
-use line_steps::Mode;
-use line_tape::CountError;
+use line_tape::{CountError, Mode};
 use std::alloc::Global;
 
 // Why commands were not done to their end.

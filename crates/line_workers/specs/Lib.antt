@@ -1,0 +1,4 @@
+pub mod Scripts
+pub mod Followed
+pub mod Faults
+pub mod MadeDrills

@@ -12,16 +12,16 @@ use Rattle.line_tape.specs.Views.{MarksView}
 use Rattle.line_world.specs.declared.replies.Answer.TheVariants.{Done, Refused}
 use Rattle.line_world.specs.declared.replies.StepError.{StepError}
 use Rattle.line_world.specs.declared.replies.StepError.TheVariants.{TapeFull}
-use Rattle.line_steps.specs.declared.modes.Mode.{Mode}
-use Rattle.line_steps.specs.declared.steps.Step.TheVariants.{Deliver}
+use Rattle.line_tape.specs.declared.modes.Mode.{Mode}
+use Rattle.line_tape.specs.declared.steps.Step.TheVariants.{Deliver}
 use Rattle.line_moves.specs.Fates.{events_taken}
 use Rattle.line_world.specs.Steps.{reply_taken}
 use Rattle.line_moves.specs.Listed.{ListedRound, newly_listed}
-use Rattle.line_steps.specs.declared.modes.Mode.TheVariants.{Fifo, Unordered}
+use Rattle.line_tape.specs.declared.modes.Mode.TheVariants.{Fifo, Unordered}
 use Rattle.std.specs.List.{All}
 use Rattle.std.proofs.lemmas.List.Elements.{All-head, All-tail}
 use Rattle.line_moves.specs.Queues.{taken_off}
-use Rattle.line_colours.specs.Tables.{between}
+use Rattle.line_rounds.specs.Tables.{between}
 use Rattle.line_moves.specs.Worlds.{names_on, IsItemOf, IsMessage, IsWorld}
 use Rattle.line_world.specs.Machine.{Machine, items_on, with_step}
 use Rattle.line_moves.specs.Modes.{copies_in}

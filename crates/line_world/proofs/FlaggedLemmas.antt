@@ -10,8 +10,8 @@ use Rattle.line_tape.specs.Event.{Holds}
 use Rattle.line_tape.specs.Fit.{IsSentTo}
 use Rattle.line_tape.specs.History.{Process, tape_at}
 use Rattle.line_laws.proofs.CopyLemmas.{copy_addressed}
-use Rattle.line_colours.specs.Tables.{between}
-use Rattle.line_steps.specs.declared.modes.Mode.TheVariants.{Unordered}
+use Rattle.line_rounds.specs.Tables.{between}
+use Rattle.line_tape.specs.declared.modes.Mode.TheVariants.{Unordered}
 use Rattle.line_moves.specs.Worlds.{message_of, messages_at, IsWorld}
 
 -- a message that stands at a place is among the messages

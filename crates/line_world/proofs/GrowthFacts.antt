@@ -18,8 +18,8 @@ use Rattle.line_laws.proofs.CompletionLemmas.{checked_from, completed_from, no_c
 use Rattle.line_tape.proofs.ListLemmas.{any_push}
 use Rattle.line_laws.proofs.SnapshotLemmas.{snapshot_event}
 use Rattle.line_tape.proofs.StayLemmas.{length_restarted}
-use Rattle.line_steps.specs.declared.modes.Mode.{Mode}
-use Rattle.line_steps.specs.declared.modes.Mode.TheVariants.{Fifo, Unordered}
+use Rattle.line_tape.specs.declared.modes.Mode.{Mode}
+use Rattle.line_tape.specs.declared.modes.Mode.TheVariants.{Fifo, Unordered}
 use Rattle.line_moves.specs.Listed.{ListedRound, channel_in, is_begun, is_completed, listed_round}
 use Rattle.line_moves.specs.Listed.{newly_listed, stays, IsSnapshotOf}
 use Rattle.line_moves.specs.Worlds.{AreNumbered}

@@ -11,14 +11,14 @@ use Rattle.line_tape.specs.History.{Process, tape_at}
 use Rattle.line_tape.specs.Rounds.{has_check_of}
 use Rattle.line_tape.specs.Colours.{colour, message_colour, AreColoured}
 use Rattle.std.specs.Option.{SomeIff}
-use Rattle.line_colours.specs.Flags.{AreFlagged}
-use Rattle.line_colours.specs.Kept.{ProcessTurns, AreTurned}
-use Rattle.line_colours.specs.Tables.{between}
-use Rattle.line_colours.specs.Turning.{TurningView}
+use Rattle.line_rounds.specs.Flags.{AreFlagged}
+use Rattle.line_rounds.specs.Kept.{ProcessTurns, AreTurned}
+use Rattle.line_rounds.specs.Tables.{between}
+use Rattle.line_rounds.specs.Turning.{TurningView}
 use Rattle.line_moves.specs.declared.fates.Fate.{Fate}
 use Rattle.line_moves.specs.declared.fates.Fate.TheVariants.{Taken}
-use Rattle.line_steps.specs.declared.modes.Mode.{Mode}
-use Rattle.line_steps.specs.declared.modes.Mode.TheVariants.{Fifo, Unordered}
+use Rattle.line_tape.specs.declared.modes.Mode.{Mode}
+use Rattle.line_tape.specs.declared.modes.Mode.TheVariants.{Fifo, Unordered}
 use Rattle.line_moves.specs.Fates.{fate_of, forced_round}
 use Rattle.line_moves.specs.Listed.{ListedRound, is_begun, is_completed}
 use Rattle.line_moves.specs.Openings.{OpenView, left_open, newly_closed, opened_by, opened_turning}
@@ -26,7 +26,7 @@ use Rattle.line_moves.specs.Openings.{IsOpenTurning, IsListedOrOpen}
 use Rattle.line_moves.specs.Worlds.{AreRounds, IsItemOf, IsMessage, IsPainted, IsWorld}
 use Rattle.line_moves.proofs.TurnFacts.{may_turn_none, open_is}
 use Rattle.line_moves.proofs.WorldLemmas.{items-world, IsWorld-held}
-use Rattle.line_steps.specs.declared.steps.Step.TheVariants.{Begin, Turn}
+use Rattle.line_tape.specs.declared.steps.Step.TheVariants.{Begin, Turn}
 use Rattle.line_world.specs.declared.protocols.Protocol.{Protocol}
 use Rattle.line_world.specs.declared.protocols.Protocol.TheVariants.{Markers, Colours}
 use Rattle.line_world.specs.declared.worlds.World.TheInside.{Inside}

@@ -14,9 +14,9 @@ use Rattle.line_tape.specs.Rounds.{has_check_of}
 use Rattle.line_tape.proofs.EventLemmas.{tape_same}
 use Rattle.line_laws.proofs.RoundLines.{checked_has, completed_checked}
 use Rattle.line_laws.proofs.SnapshotLemmas.{snapshot_event}
-use Rattle.line_colours.specs.Turning.{IsTurning}
-use Rattle.line_steps.specs.declared.modes.Mode.{Mode}
-use Rattle.line_steps.specs.declared.modes.Mode.TheVariants.{Fifo, Unordered}
+use Rattle.line_rounds.specs.Turning.{IsTurning}
+use Rattle.line_tape.specs.declared.modes.Mode.{Mode}
+use Rattle.line_tape.specs.declared.modes.Mode.TheVariants.{Fifo, Unordered}
 use Rattle.line_moves.specs.Fates.{is_forced, marker_events}
 use Rattle.line_moves.specs.Listed.{ListedRound, channel_in, is_begun, is_completed, listed_round}
 use Rattle.line_moves.specs.Listed.{IsSnapshotOf, newly_listed}

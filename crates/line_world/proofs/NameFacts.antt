@@ -24,9 +24,9 @@ use Rattle.line_world.specs.declared.replies.Reply.{Reply}
 use Rattle.line_world.specs.declared.replies.Reply.TheVariants.{Sent, Took, Marked, Stale, Repeated}
 use Rattle.line_world.specs.declared.replies.Reply.TheVariants.{Checked, Begun, Turned, Damaged}
 use Rattle.line_world.specs.declared.replies.Reply.TheVariants.{Barred, Recovered}
-use Rattle.line_steps.specs.declared.steps.Step.{Step}
-use Rattle.line_steps.specs.declared.steps.Step.TheVariants.{Send, Deliver, Check, Begin, Turn}
-use Rattle.line_steps.specs.declared.steps.Step.TheVariants.{Damage, Bar, Recover}
+use Rattle.line_tape.specs.declared.steps.Step.{Step}
+use Rattle.line_tape.specs.declared.steps.Step.TheVariants.{Send, Deliver, Check, Begin, Turn}
+use Rattle.line_tape.specs.declared.steps.Step.TheVariants.{Damage, Bar, Recover}
 use Rattle.line_moves.specs.Fates.{fate_of, forced_round, events_of, events_taken, is_forced}
 use Rattle.line_moves.specs.Fates.{marker_events}
 use Rattle.line_world.specs.Steps.{reply_of, reply_taken, Does, RecoversWith}
@@ -37,7 +37,7 @@ use Rattle.line_world.specs.Runs.{Takes, Run, reply_name, answer_name}
 use Rattle.line_world.proofs.StepLemmas.{may_turn_at, may_send, may_deliver_at, may_begin}
 use Rattle.line_world.proofs.StepLemmas.{may_check}
 use Rattle.line_moves.proofs.LinkLemmas.{length-with_event}
-use Rattle.line_steps.specs.declared.modes.Mode.{Mode}
+use Rattle.line_tape.specs.declared.modes.Mode.{Mode}
 use Rattle.line_tape.specs.declared.items.Item.{Item}
 use Rattle.line_tape.specs.declared.items.Item.TheVariants.{Message, Marker}
 

@@ -10,21 +10,21 @@ use Rattle.line_tape.specs.Fit.{IsFitUnordered, IsNextUnordered}
 use Rattle.line_tape.specs.History.{Process, tape_at, incarnation_at, with_event}
 use Rattle.line_tape.specs.Rounds.{checked_round}
 use Rattle.line_laws.proofs.ColourRounds.{coloured_event}
-use Rattle.line_colours.specs.Flags.{AreFlagged}
-use Rattle.line_colours.specs.Kept.{ProcessTurns, AreTurned}
-use Rattle.line_colours.specs.Turning.{TurningView}
-use Rattle.line_colours.proofs.TurnedLemmas.{AreTurned-kept}
+use Rattle.line_rounds.specs.Flags.{AreFlagged}
+use Rattle.line_rounds.specs.Kept.{ProcessTurns, AreTurned}
+use Rattle.line_rounds.specs.Turning.{TurningView}
+use Rattle.line_rounds.proofs.TurnedLemmas.{AreTurned-kept}
 use Rattle.line_moves.specs.declared.fates.Fate.TheVariants.{Taken}
 use Rattle.std.specs.List.{slice_get}
 use Rattle.line_tape.specs.declared.items.Item.{Item}
 use Rattle.line_tape.specs.declared.items.Item.TheVariants.{Message}
-use Rattle.line_steps.specs.declared.modes.Mode.TheVariants.{Unordered}
+use Rattle.line_tape.specs.declared.modes.Mode.TheVariants.{Unordered}
 use Rattle.line_moves.specs.Fates.{fate_of, forced_round}
-use Rattle.line_colours.specs.Tables.{between}
+use Rattle.line_rounds.specs.Tables.{between}
 use Rattle.line_moves.specs.Modes.{IsFitIn}
 use Rattle.line_moves.specs.Worlds.{IsPainted, IsWorld}
 use Rattle.line_moves.proofs.WorldLemmas.{next_receipt}
-use Rattle.line_colours.proofs.FlagLemmas.{AreFlagged-other}
+use Rattle.line_rounds.proofs.FlagLemmas.{AreFlagged-other}
 use Rattle.line_world.specs.declared.protocols.Protocol.{Protocol}
 use Rattle.line_world.specs.declared.protocols.Protocol.TheVariants.{Markers, Colours}
 use Rattle.line_world.specs.Protocols.{mode_of, open_round_of, IsFollowing}

@@ -15,10 +15,10 @@ use Rattle.line_tape.specs.Front.{HasChoice}
 use Rattle.line_tape.specs.History.{Process, tape_at}
 use Rattle.line_tape.specs.Line.{IsLine}
 use Rattle.line_tape.specs.Transit.{in_transit_between}
-use Rattle.line_colours.specs.Tables.{between, IsTable}
-use Rattle.line_colours.proofs.TableLemmas.{between-none, IsTable-none}
-use Rattle.line_steps.specs.declared.modes.Mode.{Mode}
-use Rattle.line_steps.specs.declared.modes.Mode.TheVariants.{Fifo, Unordered}
+use Rattle.line_rounds.specs.Tables.{between, IsTable}
+use Rattle.line_rounds.proofs.TableLemmas.{between-none, IsTable-none}
+use Rattle.line_tape.specs.declared.modes.Mode.{Mode}
+use Rattle.line_tape.specs.declared.modes.Mode.TheVariants.{Fifo, Unordered}
 use Rattle.line_moves.specs.Listed.{ListedRound, IsSnapshotOf}
 use Rattle.line_moves.specs.Openings.{OpenView}
 use Rattle.line_moves.specs.Worlds.{AreNumbered, AreQueues, AreRounds, IsItemOf, IsWorld}

@@ -9,15 +9,15 @@ use Rattle.line_tape.specs.History.{Process, incarnation_at, with_event}
 use Rattle.line_tape.specs.Spent.{next_name}
 use Rattle.line_tape.specs.Views.{MarksView}
 use Rattle.line_names.specs.declared.messages.MsgName.{MsgName}
-use Rattle.line_colours.specs.Tables.{between, with_list}
-use Rattle.line_steps.specs.declared.modes.Mode.{Mode}
-use Rattle.line_steps.specs.declared.modes.Mode.TheVariants.{Fifo, Unordered}
+use Rattle.line_rounds.specs.Tables.{between, with_list}
+use Rattle.line_tape.specs.declared.modes.Mode.{Mode}
+use Rattle.line_tape.specs.declared.modes.Mode.TheVariants.{Fifo, Unordered}
 use Rattle.line_moves.specs.Listed.{newly_listed, ListedRound}
 use Rattle.line_moves.specs.Modes.{copies_in}
 use Rattle.line_moves.specs.Worlds.{message_of, names_on}
 use Rattle.line_moves.proofs.WorldLemmas.{names-at, names-with}
 use Rattle.line_world.specs.declared.replies.Reply.TheVariants.{Sent}
-use Rattle.line_steps.specs.declared.steps.Step.TheVariants.{Send as SendStep}
+use Rattle.line_tape.specs.declared.steps.Step.TheVariants.{Send as SendStep}
 use Rattle.line_world.specs.Machine.{Machine}
 use Rattle.line_world.specs.Steps.{Does}
 

@@ -31,13 +31,13 @@ use Rattle.line_laws.proofs.ForcedLemmas.{colour_less, colour_most, forced_next,
 use Rattle.line_laws.proofs.ForcedLemmas.{message_colour_reached, receipt_waits}
 use Rattle.line_tape.proofs.LineLemmas.{tape_at-past}
 use Rattle.line_laws.proofs.SnapshotLemmas.{latest_reached}
-use Rattle.line_colours.specs.Tables.{between, table_of, with_list, IsTable}
-use Rattle.line_colours.proofs.TableLemmas.{between-of, IsTable-of}
+use Rattle.line_rounds.specs.Tables.{between, table_of, with_list, IsTable}
+use Rattle.line_rounds.proofs.TableLemmas.{between-of, IsTable-of}
 use Rattle.line_moves.specs.declared.fates.Fate.{Fate}
 use Rattle.line_moves.specs.declared.fates.Fate.TheVariants.{Taken, Stale as IsStale}
 use Rattle.line_moves.specs.declared.fates.Fate.TheVariants.{Repeated as IsRepeated}
-use Rattle.line_steps.specs.declared.modes.Mode.{Mode}
-use Rattle.line_steps.specs.declared.modes.Mode.TheVariants.{Fifo, Unordered}
+use Rattle.line_tape.specs.declared.modes.Mode.{Mode}
+use Rattle.line_tape.specs.declared.modes.Mode.TheVariants.{Fifo, Unordered}
 use Rattle.line_moves.specs.Fates.{events_of, events_taken, fate_of, forced_round, is_forced}
 use Rattle.line_moves.specs.Fates.{marker_events}
 use Rattle.line_moves.specs.Listed.{ListedRound, channel_in, is_begun, is_completed, listed_round}
@@ -62,9 +62,9 @@ use Rattle.line_world.specs.declared.replies.Reply.TheVariants.{Checked, Begun, 
 use Rattle.line_world.specs.declared.replies.Reply.TheVariants.{Barred, Recovered}
 use Rattle.line_world.specs.declared.replies.StepError.{StepError}
 use Rattle.line_world.specs.declared.replies.StepError.TheVariants.{TapeFull}
-use Rattle.line_steps.specs.declared.steps.Step.{Step}
-use Rattle.line_steps.specs.declared.steps.Step.TheVariants.{Send, Deliver, Check, Begin, Turn}
-use Rattle.line_steps.specs.declared.steps.Step.TheVariants.{Damage, Bar, Recover}
+use Rattle.line_tape.specs.declared.steps.Step.{Step}
+use Rattle.line_tape.specs.declared.steps.Step.TheVariants.{Send, Deliver, Check, Begin, Turn}
+use Rattle.line_tape.specs.declared.steps.Step.TheVariants.{Damage, Bar, Recover}
 use Rattle.line_world.specs.Machine.{Machine, items_on, start}
 use Rattle.line_world.specs.Refusals.{first_cause, is_full_for, link_causes, refusal_of}
 use Rattle.line_world.specs.Runs.{Run, Takes, IsParted}

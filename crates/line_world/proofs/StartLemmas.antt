@@ -12,12 +12,12 @@ use Rattle.line_tape.specs.Fit.{items_sent, item_received, IsPrefix, AreDistinct
 use Rattle.line_tape.specs.History.{Process, fresh, tape_at}
 use Rattle.line_laws.proofs.CopyLemmas.{unordered_start}
 use Rattle.line_tape.specs.Rounds.{has_check_of, rounds_checked}
-use Rattle.line_steps.specs.declared.modes.Mode.{Mode}
-use Rattle.line_steps.specs.declared.modes.Mode.TheVariants.{Fifo, Unordered}
-use Rattle.line_colours.specs.Tables.{between, IsTable}
+use Rattle.line_tape.specs.declared.modes.Mode.{Mode}
+use Rattle.line_tape.specs.declared.modes.Mode.TheVariants.{Fifo, Unordered}
+use Rattle.line_rounds.specs.Tables.{between, IsTable}
 use Rattle.line_moves.specs.Modes.{copies_in}
 use Rattle.line_moves.proofs.WorldLemmas.{names-at, names-shape}
-use Rattle.line_colours.proofs.TableLemmas.{between-none, table_of-all, IsTable-none}
+use Rattle.line_rounds.proofs.TableLemmas.{between-none, table_of-all, IsTable-none}
 use Rattle.line_moves.specs.Worlds.{IsItemOf, message_of, messages_at, names_on, AreQueues}
 use Rattle.line_moves.specs.Worlds.{AreRounds, HoldMessages, IsOrderedWorld, IsLinked, IsMessage}
 use Rattle.line_moves.specs.Worlds.{IsWorld}

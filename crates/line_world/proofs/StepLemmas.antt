@@ -6,11 +6,11 @@ use Rattle.std.proofs.lemmas.Bool.{or_parts, leb-false, ltb-false, eqb-true, eqb
 use Rattle.line_tape.specs.declared.items.Item.{Item}
 use Rattle.line_tape.specs.declared.limits.TheConstants.{MOST_EVENTS, MOST_STATE, LAST_ROUND}
 use Rattle.line_tape.specs.History.{tape_at}
-use Rattle.line_steps.specs.declared.modes.Mode.{Mode}
-use Rattle.line_steps.specs.declared.modes.Mode.TheVariants.{Fifo, Unordered}
-use Rattle.line_steps.specs.declared.steps.Step.{Step}
-use Rattle.line_steps.specs.declared.steps.Step.TheVariants.{Send, Deliver, Check, Begin, Turn}
-use Rattle.line_steps.specs.declared.steps.Step.TheVariants.{Recover}
+use Rattle.line_tape.specs.declared.modes.Mode.{Mode}
+use Rattle.line_tape.specs.declared.modes.Mode.TheVariants.{Fifo, Unordered}
+use Rattle.line_tape.specs.declared.steps.Step.{Step}
+use Rattle.line_tape.specs.declared.steps.Step.TheVariants.{Send, Deliver, Check, Begin, Turn}
+use Rattle.line_tape.specs.declared.steps.Step.TheVariants.{Recover}
 use Rattle.line_world.specs.declared.replies.Answer.TheVariants.{Refused}
 use Rattle.line_world.specs.declared.replies.StepError.{StepError}
 use Rattle.line_world.specs.declared.replies.StepError.TheVariants.{NoSuchProcess, TapeFull}
@@ -22,7 +22,7 @@ use Rattle.line_world.specs.Machine.{Machine, items_on, is_open}
 use Rattle.line_world.specs.Refusals.{first_cause, link_causes, has_stranger, is_stranger}
 use Rattle.line_world.specs.Refusals.{is_bad_pick, is_full, is_full_for, is_long, may_turn}
 use Rattle.line_world.specs.Refusals.{refusal_of, IsRefused}
-use Rattle.line_steps.specs.Modes.{is_fifo}
+use Rattle.line_tape.specs.Modes.{is_fifo}
 use Rattle.line_world.specs.Runs.{Takes}
 
 -- where no cause holds, the first one doesn't, nor does any other

@@ -26,16 +26,16 @@ use Rattle.line_laws.proofs.ForcedLemmas.{forced_open, receipt_waits}
 use Rattle.line_tape.proofs.EventLemmas.{tape_same, tape_other}
 use Rattle.line_laws.proofs.RoundLines.{checked_has, round_is_line}
 use Rattle.line_laws.proofs.SnapshotLemmas.{event_transit}
-use Rattle.line_colours.specs.Kept.{ProcessTurns, AreTurned}
-use Rattle.line_colours.specs.Turning.{TurningView, IsTurning}
+use Rattle.line_rounds.specs.Kept.{ProcessTurns, AreTurned}
+use Rattle.line_rounds.specs.Turning.{TurningView, IsTurning}
 use Rattle.line_moves.specs.declared.fates.Fate.TheVariants.{Taken}
-use Rattle.line_steps.specs.declared.modes.Mode.TheVariants.{Unordered}
+use Rattle.line_tape.specs.declared.modes.Mode.TheVariants.{Unordered}
 use Rattle.line_moves.specs.Fates.{fate_of, forced_round}
 use Rattle.line_moves.specs.Listed.{ListedRound, channel_table, is_begun, is_completed}
 use Rattle.line_moves.specs.Listed.{listed_round, newly_listed}
 use Rattle.line_moves.specs.Openings.{OpenView, left_open, newly_closed, opened_by, opened_turning}
 use Rattle.line_moves.specs.Openings.{IsRunning}
-use Rattle.line_colours.specs.Tables.{between}
+use Rattle.line_rounds.specs.Tables.{between}
 use Rattle.line_moves.specs.Worlds.{AreRounds, IsPainted, IsWorld}
 use Rattle.line_moves.proofs.LinkLemmas.{length-with_event}
 use Rattle.line_world.proofs.MarkerFacts.{begun_listed, begun_running, begun_settled, turned_listed}

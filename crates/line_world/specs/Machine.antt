@@ -8,11 +8,11 @@ use Rattle.line_names.specs.declared.messages.MsgName.{MsgName}
 use Rattle.line_tape.specs.declared.items.Item.{Item}
 use Rattle.line_tape.specs.History.{Process, fresh}
 use Rattle.line_tape.specs.Views.{MarksView, no_marks}
-use Rattle.line_steps.specs.declared.modes.Mode.{Mode}
+use Rattle.line_tape.specs.declared.modes.Mode.{Mode}
 use Rattle.line_moves.specs.Listed.{ListedRound, is_begun, is_completed, newly_listed}
 use Rattle.line_moves.specs.Modes.{copies_in, items_in, IsFitIn}
 use Rattle.line_moves.specs.Moves.{with_events}
-use Rattle.line_colours.specs.Tables.{between, with_list}
+use Rattle.line_rounds.specs.Tables.{between, with_list}
 
 -- a state of the machine
 pub record Machine : Type 0 where

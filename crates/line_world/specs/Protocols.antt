@@ -2,9 +2,9 @@
 -- round, and how it follows the tapes.
 use Rattle.std.specs.Prelude.{List, Option}
 use Rattle.line_tape.specs.History.{Process}
-use Rattle.line_colours.specs.Flags.{AreFlagged}
-use Rattle.line_steps.specs.declared.modes.Mode.{Mode}
-use Rattle.line_steps.specs.declared.modes.Mode.TheVariants.{Fifo, Unordered}
+use Rattle.line_rounds.specs.Flags.{AreFlagged}
+use Rattle.line_tape.specs.declared.modes.Mode.{Mode}
+use Rattle.line_tape.specs.declared.modes.Mode.TheVariants.{Fifo, Unordered}
 use Rattle.line_moves.specs.Openings.{OpenView, opened_turning}
 use Rattle.line_moves.specs.Worlds.{IsPainted}
 use Rattle.line_world.specs.declared.protocols.Protocol.{Protocol}

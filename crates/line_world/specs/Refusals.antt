@@ -11,11 +11,11 @@ use Rattle.line_tape.specs.History.{tape_at}
 use Rattle.line_tape.specs.Restart.{HaveFurther}
 use Rattle.line_tape.specs.Rounds.{has_check_of}
 use Rattle.line_tape.specs.Survival.{is_barred, is_damaged, IsLatest}
-use Rattle.line_steps.specs.declared.modes.Mode.{Mode}
-use Rattle.line_steps.specs.declared.modes.Mode.TheVariants.{Fifo, Unordered}
-use Rattle.line_steps.specs.declared.steps.Step.{Step}
-use Rattle.line_steps.specs.declared.steps.Step.TheVariants.{Send, Deliver, Check, Begin, Turn}
-use Rattle.line_steps.specs.declared.steps.Step.TheVariants.{Damage, Bar, Recover}
+use Rattle.line_tape.specs.declared.modes.Mode.{Mode}
+use Rattle.line_tape.specs.declared.modes.Mode.TheVariants.{Fifo, Unordered}
+use Rattle.line_tape.specs.declared.steps.Step.{Step}
+use Rattle.line_tape.specs.declared.steps.Step.TheVariants.{Send, Deliver, Check, Begin, Turn}
+use Rattle.line_tape.specs.declared.steps.Step.TheVariants.{Damage, Bar, Recover}
 use Rattle.line_world.specs.declared.replies.StepError.{StepError}
 use Rattle.line_world.specs.declared.replies.StepError.TheVariants.{NoSuchProcess, TapeFull}
 use Rattle.line_world.specs.declared.replies.StepError.TheVariants.{NoSuchCheck, StateTooLong}
@@ -25,7 +25,7 @@ use Rattle.line_world.specs.declared.replies.StepError.TheVariants.{RoundOpen, N
 use Rattle.line_world.specs.declared.replies.StepError.TheVariants.{WrongMode, NoMoreRounds}
 use Rattle.line_world.specs.declared.replies.StepError.TheVariants.{NoMoreIncarnations, BarNotLower}
 use Rattle.line_moves.specs.Fates.{events_taken}
-use Rattle.line_steps.specs.Modes.{is_fifo}
+use Rattle.line_tape.specs.Modes.{is_fifo}
 use Rattle.line_world.specs.Machine.{Machine, items_on, is_open}
 
 -- the first cause that holds

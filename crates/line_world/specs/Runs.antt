@@ -2,7 +2,7 @@
 use Rattle.std.specs.Prelude.{◌≡◌, ◌≢◌, List, [], ◌∷◌, ◌++◌, AllPairs, Option, Some, None}
 use Rattle.std.specs.List.{filter_map}
 use Rattle.line_names.specs.declared.messages.MsgName.{MsgName}
-use Rattle.line_steps.specs.declared.steps.Step.{Step}
+use Rattle.line_tape.specs.declared.steps.Step.{Step}
 use Rattle.line_world.specs.declared.replies.Answer.{Answer}
 use Rattle.line_world.specs.declared.replies.Answer.TheVariants.{Done, Refused}
 use Rattle.line_world.specs.declared.replies.Reply.{Reply}

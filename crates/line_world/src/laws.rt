@@ -1,8 +1,8 @@
 //! Laws over the runs of the machine.
 ghost use Rattle.std.specs.Prelude.{◌++◌, ℕ, List};
 ghost use Rattle.line_world.specs.declared.replies.Answer.{Answer};
-ghost use Rattle.line_steps.specs.declared.modes.Mode.{Mode};
-ghost use Rattle.line_steps.specs.declared.steps.Step.{Step};
+ghost use Rattle.line_tape.specs.declared.modes.Mode.{Mode};
+ghost use Rattle.line_tape.specs.declared.steps.Step.{Step};
 ghost use Rattle.line_world.specs.Machine.{Machine, start};
 ghost use Rattle.line_world.specs.Runs.{AreNamedApart, IsParted, Run, Takes};
 ghost use Rattle.line_world.specs.Sound.{CompletesLast, IsSound, ReachesRounds};

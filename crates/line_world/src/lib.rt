@@ -18,6 +18,6 @@ mod worlds;
 pub use idle::is_idle;
 pub use laws::{runs_keep_rounds, runs_name_apart};
 pub use line_moves::Round;
-pub use line_steps::{Mode, Step, StepRef};
+pub use line_tape::{Mode, Step, StepRef};
 pub use replies::{Answer, Reply, RunStopped, StepError};
 pub use worlds::World;

@@ -6,16 +6,15 @@ ghost use Rattle.line_tape.specs.History.{fresh};
 ghost use Rattle.line_tape.specs.Line.{IsLine};
 ghost use Rattle.line_tape.specs.Restart.{restarted_history};
 ghost use Rattle.line_tape.specs.Transit.{in_transit, in_transit_between};
-ghost use Rattle.line_colours.specs.Tables.{between};
+ghost use Rattle.line_rounds.specs.Tables.{between};
 ghost use Rattle.line_moves.specs.Modes.{copies_in};
 ghost use Rattle.line_moves.specs.Worlds.{AreQueues};
 ghost use Rattle.line_world.specs.Protocols.{mode_of, open_round_of, IsFollowing};
 
-use line_colours::{Colours, ReceivedSends, Turning};
 use line_moves::{Links, OpenRound, restart_copies, restart_links};
 use line_names::{Line, MsgName, ProcId};
-use line_steps::Mode;
-use line_tape::History;
+use line_rounds::{Colours, ReceivedSends, Turning};
+use line_tape::{History, Mode};
 use std::alloc::{AllocError, Global};
 
 /// What is kept of rounds and of received messages for each kind of links.

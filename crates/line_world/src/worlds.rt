@@ -3,12 +3,12 @@ ghost use Rattle.std.specs.Prelude.{◌≡◌, ◌≢◌, ◌<◌, ◌≤◌, �
 ghost use Rattle.std.specs.Prelude.{take, slice_get, IfOk, IfErr, IsErrOf, IsTrue};
 ghost use Rattle.line_tape.specs.History.{incarnation_at};
 ghost use Rattle.line_world.specs.declared.replies.Answer.TheVariants.{Done, Refused};
-ghost use Rattle.line_steps.specs.declared.steps.Step.TheVariants.{Send, Check, Damage, Bar};
+ghost use Rattle.line_tape.specs.declared.steps.Step.TheVariants.{Send, Check, Damage, Bar};
 ghost use Rattle.line_moves.specs.Listed.{ListedRound, IsReached, IsSnapshotOf};
 ghost use Rattle.line_world.specs.Machine.{start, items_on, IsFit};
 ghost use Rattle.line_world.specs.Refusals.{refusal_of, has_stranger};
 ghost use Rattle.line_world.specs.Runs.{Takes, Run};
-ghost use Rattle.line_steps.specs.Shown.{step_of_ref, HasShortBody};
+ghost use Rattle.line_tape.specs.StepShown.{step_of_ref, HasShortBody};
 ghost use Rattle.line_world.specs.Steps.{IsPlan};
 
 mod deliveries;
@@ -23,8 +23,7 @@ use line_catalogue::Catalogue;
 use line_moves::{Links, Listing, Round, add_check, put_message};
 use line_names::{MOST_BODY, MOST_PROCESSES, ProcId, ProcSet};
 use line_plan::Plan;
-use line_steps::{Mode, Step, StepRef};
-use line_tape::{CountError, History, Item, MOST_STATE, Marks, State};
+use line_tape::{CountError, History, Item, MOST_STATE, Marks, Mode, State, Step, StepRef};
 use refusals::lacks_room;
 use std::alloc::Global;
 use std::marker::Model;

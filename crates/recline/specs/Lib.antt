@@ -25,9 +25,9 @@ pub use Rattle.line_names.specs.declared.choices.Choice
 pub use Rattle.line_names.specs.declared.messages.MsgName
 pub use Rattle.line_tape.specs.declared.events.Event as EventValue
 pub use Rattle.line_tape.specs.declared.items.Item
-pub use Rattle.line_steps.specs.declared.modes.Mode
+pub use Rattle.line_tape.specs.declared.modes.Mode
 pub use Rattle.line_world.specs.declared.replies.Answer
-pub use Rattle.line_steps.specs.declared.steps.Step
+pub use Rattle.line_tape.specs.declared.steps.Step
 pub use Rattle.line_scripts.specs.declared.commands.Command
 -- Catalogues, and the vectors of choices.
 pub use Rattle.line_catalogue.specs.Agreement
@@ -48,12 +48,12 @@ pub use Rattle.line_check.specs.Verdict
 -- Worlds.
 pub use Rattle.line_moves.specs.Listed
 pub use Rattle.line_moves.specs.Modes
-pub use Rattle.line_steps.specs.Modes as StepModes
+pub use Rattle.line_tape.specs.Modes as StepModes
 pub use Rattle.line_world.specs.Codes
 pub use Rattle.line_world.specs.Machine
 pub use Rattle.line_world.specs.Refusals as StepRefusals
 pub use Rattle.line_world.specs.Runs
-pub use Rattle.line_steps.specs.Shown as StepShown
+pub use Rattle.line_tape.specs.StepShown as StepShown
 pub use Rattle.line_world.specs.Sound
 pub use Rattle.line_world.specs.Steps
 -- Texts.
@@ -78,12 +78,12 @@ pub use Rattle.line_scripts.specs.Reads as ScriptReads
 pub use Rattle.line_scripts.specs.Records as ScriptRecords
 pub use Rattle.line_scripts.specs.RunScripts
 pub use Rattle.line_scripts.specs.Scripts
-pub use Rattle.line_answers.specs.Replies
+pub use Rattle.line_text.specs.Replies
 pub use Rattle.line_text.specs.Inputs
 pub use Rattle.line_text.specs.Judgings
 pub use Rattle.line_text.specs.Runs as TextRuns
 -- Workers.
-pub use Rattle.line_marker.specs.Recording
+pub use Rattle.line_rounds.specs.Recording
 pub use Rattle.line_posts.specs.Collected
 pub use Rattle.line_posts.specs.Ends
 pub use Rattle.line_posts.specs.Extension
@@ -97,16 +97,16 @@ pub use Rattle.line_posts.specs.Posts
 pub use Rattle.line_posts.specs.Receipts
 pub use Rattle.line_posts.specs.Refusals as PostRefusals
 pub use Rattle.line_posts.specs.Reports
-pub use Rattle.line_drills.specs.Faults as DrillFaults
-pub use Rattle.line_drills.specs.Scripts as DrillScripts
+pub use Rattle.line_workers.specs.Faults as DrillFaults
+pub use Rattle.line_workers.specs.Scripts as DrillScripts
 -- Services.
-pub use Rattle.line_answers.specs.Answers
-pub use Rattle.line_answers.specs.Live
-pub use Rattle.line_conversations.specs.Answers as RecordAnswers
-pub use Rattle.line_conversations.specs.Conversations
-pub use Rattle.line_conversations.specs.Lines as ServiceLines
-pub use Rattle.line_conversations.specs.Rules
-pub use Rattle.line_conversations.specs.Turns
+pub use Rattle.line_text.specs.Answers
+pub use Rattle.line_text.specs.Live
+pub use Rattle.line_text.specs.Answerers as RecordAnswers
+pub use Rattle.line_text.specs.Conversations
+pub use Rattle.line_text.specs.Lines as ServiceLines
+pub use Rattle.line_text.specs.Rules
+pub use Rattle.line_text.specs.Turns
 pub use Rattle.line_service.specs.Services
 -- Reports that are collected.
 pub use Rattle.line_collect.specs.declared.reports.Report

@@ -68,9 +68,6 @@ pub mod world {
 /// `write_check_text` or `put_answer`. `RecordReader` and `RecordWriter` are for records of your
 /// own.
 pub mod text {
-    pub use line_answers::{
-        OpenError, live_lines_stay, open_saved, put_refusal, put_reply, write_reply,
-    };
     pub use line_claims::{
         CheckText, Claim, ClaimRef, FloorRef, SavedReader, SavedRound, SavedText, TextFault,
         claims_are_read_again, histories_are_read_again, name_of, put_answer, put_answer_from,
@@ -91,9 +88,9 @@ pub mod text {
         scripts_of_saved_machines_are_read_again, version_2_reads_scripts_of_version_1,
     };
     pub use line_text::{
-        Done, check_text, claims_are_judged_alike_whatever_was_let_go,
-        claims_of_version_1_are_judged_alike_in_version_2, run_text,
-        scripts_of_both_versions_run_alike,
+        Done, OpenError, check_text, claims_are_judged_alike_whatever_was_let_go,
+        claims_of_version_1_are_judged_alike_in_version_2, live_lines_stay, open_saved,
+        put_refusal, put_reply, run_text, scripts_of_both_versions_run_alike, write_reply,
     };
 }
 
@@ -103,14 +100,16 @@ pub mod text {
 /// Begin with `run` and a `Work` of your own, where none fails; else with `fleet`, `run_crew`,
 /// `gather` and `Gathered::restart`. A `Work` calls its `Post`. `drill` has workers follow scripts.
 pub mod workers {
-    pub use line_drills::{DrillError, DrillWhy, Gate, Order, drill};
-    pub use line_marker::Marker;
     pub use line_posts::{
         BeginWhy, Collector, FleetError, ForgetWhy, GatherRefused, GatherWhy, Gathered,
         MOST_CAPACITY, MOST_WORKERS, Post, ReceiveWhy, Received, ReportError, Reported,
         RestartRefused, RestartWhy, SendRefused, SendWhy, fleet, gather, generations_last,
     };
-    pub use line_workers::{Exchange, NoThread, Routine, RunError, Stream, Work, run, run_crew};
+    pub use line_rounds::Marker;
+    pub use line_workers::{
+        DrillError, DrillWhy, Exchange, Gate, NoThread, Order, Routine, RunError, Stream, Work,
+        drill, run, run_crew,
+    };
 }
 
 /// Answer the records of a client as they come, each before the next one is waited for. What is
@@ -119,13 +118,13 @@ pub mod workers {
 /// Begin with `serve` over a `Source` and a `Sink` of `text`; or with `Service::new` and `hear`,
 /// where the bytes come from elsewhere.
 pub mod service {
-    pub use line_conversations::{Answerer, Conversation, Stop, converse, hear_out, take_turn};
     pub use line_service::{
         MOST_LINE, Outcome, ServeError, Service, faults_change_nothing, open_saved_text,
         pieces_are_answered_alike, saved_machines_are_served, saved_scripts_are_served_as_they_run,
         saved_texts_are_read_by_lines, scripts_are_served_as_they_run, serve, serve_from,
         serve_turn,
     };
+    pub use line_text::{Answerer, Conversation, Stop, converse, hear_out, take_turn};
 }
 
 /// Collect what processes report of themselves, those of several in any order, and plan from what

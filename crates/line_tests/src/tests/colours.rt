@@ -1,5 +1,5 @@
 //! One process turns to a round.
-use line_colours::{Colour, ColourError};
+use line_rounds::{Colour, ColourError};
 use std::test::Fail;
 
 #[test]

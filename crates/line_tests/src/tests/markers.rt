@@ -2,8 +2,8 @@
 ghost use Rattle.std.specs.Prelude.{◌≡◌, ◌≢◌, ◌<◌, ◌≤◌, IfOk, OnOk};
 
 use crate::tests::reads;
-use line_marker::{BeginError, Effect, Marker, MarkerError};
 use line_names::{MsgName, ProcId};
+use line_rounds::{BeginError, Effect, Marker, MarkerError};
 use std::test::Fail;
 
 /// One of three processes.

@@ -6,10 +6,10 @@ use crate::tests::drills::scripts::{
     both_waiting, check, crowded, idle, receive, ring, second, send, waiting,
 };
 use crate::tests::reads;
-use line_drills::{DrillError, DrillWhy, Order, drill};
 use line_names::ProcId;
 use line_posts::{Gathered, MOST_WORKERS};
 use line_tape::{EventRef, Tape};
+use line_workers::{DrillError, DrillWhy, Order, drill};
 use std::alloc::{AllocError, Global};
 use std::sync::Wait;
 use std::thread::Threads;

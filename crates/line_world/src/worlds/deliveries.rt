@@ -5,12 +5,12 @@ ghost use Rattle.line_tape.specs.declared.items.Item.TheVariants.{Message, Marke
 ghost use Rattle.line_tape.specs.Event.{Holds};
 ghost use Rattle.line_tape.specs.Fit.{IsSentTo};
 ghost use Rattle.line_tape.specs.History.{tape_at};
-ghost use Rattle.line_colours.specs.Flags.{AreFlagged};
+ghost use Rattle.line_rounds.specs.Flags.{AreFlagged};
 ghost use Rattle.line_moves.specs.declared.fates.Fate.TheVariants.{Taken};
-ghost use Rattle.line_steps.specs.declared.modes.Mode.TheVariants.{Fifo, Unordered};
+ghost use Rattle.line_tape.specs.declared.modes.Mode.TheVariants.{Fifo, Unordered};
 ghost use Rattle.line_moves.specs.Fates.{fate_of, forced_round};
 ghost use Rattle.line_world.specs.declared.replies.Answer.TheVariants.{Done, Refused};
-ghost use Rattle.line_steps.specs.declared.steps.Step.TheVariants.{Deliver};
+ghost use Rattle.line_tape.specs.declared.steps.Step.TheVariants.{Deliver};
 ghost use Rattle.line_world.specs.Delivered.{delivered_reply};
 ghost use Rattle.line_world.specs.Machine.{items_on};
 ghost use Rattle.line_world.specs.Refusals.{first_cause, link_causes, refusal_of};
@@ -20,12 +20,12 @@ use super::World;
 use super::refusals::lacks_room;
 use crate::protocols::Protocol;
 use crate::replies::{Delivered, Reply, StepError};
-use line_colours::ReceivedSends;
 use line_moves::{
     ArrivedMarker, Fate, TurnCheck, add_receipt, is_forced, list_completed, take_copy, take_marker,
     take_message, turn_round,
 };
 use line_names::{Choice, MsgName, ProcId};
+use line_rounds::ReceivedSends;
 use line_tape::{History, Item};
 use std::alloc::Global;
 

@@ -3,7 +3,7 @@ ghost use Rattle.std.specs.Prelude.{◌≡◌, ◌≤◌, ◌+◌, [], ℕ, All,
 ghost use Rattle.std.specs.Prelude.{replicate};
 ghost use Rattle.line_names.specs.declared.choices.Choice.TheVariants.{Now};
 ghost use Rattle.line_names.specs.declared.limits.TheConstants.{MOST_PROCESSES};
-ghost use Rattle.line_steps.specs.declared.modes.Mode.TheVariants.{Fifo};
+ghost use Rattle.line_tape.specs.declared.modes.Mode.TheVariants.{Fifo};
 ghost use Rattle.line_tape.specs.Fit.{IsFitFifo};
 ghost use Rattle.line_tape.specs.History.{tape_at};
 ghost use Rattle.line_tape.specs.Rounds.{has_check_of};
@@ -17,7 +17,7 @@ use crate::protocols::Protocol;
 use line_catalogue::Catalogue;
 use line_moves::{Links, Listing, restart_links};
 use line_names::{Choice, Line};
-use line_steps::Mode;
+use line_tape::Mode;
 use std::alloc::{AllocError, Global};
 
 /// The line at which each of `n` processes stands where it is now.

@@ -1,7 +1,7 @@
 //! How a world recovers.
 ghost use Rattle.std.specs.Prelude.{◌≡◌, ◌≢◌, ◌↔◌, ◌⊎◌, None, IfOk, IfErr, IsErrOf, IsTrue, false};
 ghost use Rattle.line_world.specs.declared.replies.Answer.TheVariants.{Done, Refused};
-ghost use Rattle.line_steps.specs.declared.steps.Step.TheVariants.{Recover};
+ghost use Rattle.line_tape.specs.declared.steps.Step.TheVariants.{Recover};
 ghost use Rattle.line_world.specs.Refusals.{refusal_of, has_stranger};
 ghost use Rattle.line_world.specs.Runs.{Takes};
 ghost use Rattle.line_world.specs.Steps.{IsPlan, Recovers};

@@ -1,8 +1,8 @@
 //! What refuses a step of a world.
 ghost use Rattle.std.specs.Prelude.{◌≡◌, ◌≢◌, ◌<◌, ◌≤◌, ◌+◌, length, nat_lt};
 ghost use Rattle.line_tape.specs.History.{tape_at};
-ghost use Rattle.line_steps.specs.declared.modes.Mode.TheVariants.{Unordered};
-ghost use Rattle.line_steps.specs.declared.steps.Step.TheVariants.{Begin, Turn};
+ghost use Rattle.line_tape.specs.declared.modes.Mode.TheVariants.{Unordered};
+ghost use Rattle.line_tape.specs.declared.steps.Step.TheVariants.{Begin, Turn};
 ghost use Rattle.line_world.specs.Machine.{is_open, items_on};
 ghost use Rattle.line_world.specs.Refusals.{first_cause, is_bad_pick, link_causes, may_turn};
 ghost use Rattle.line_world.specs.Refusals.{refusal_of};

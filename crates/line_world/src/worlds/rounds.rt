@@ -1,17 +1,17 @@
 //! How a world begins a round, and how a process turns to it.
 ghost use Rattle.std.specs.Prelude.{◌≡◌, ◌≢◌, None, IfOk, IfErr, IsErrOf};
-ghost use Rattle.line_steps.specs.declared.modes.Mode.TheVariants.{Fifo, Unordered};
+ghost use Rattle.line_tape.specs.declared.modes.Mode.TheVariants.{Fifo, Unordered};
 ghost use Rattle.line_world.specs.declared.replies.Answer.TheVariants.{Done, Refused};
-ghost use Rattle.line_steps.specs.declared.steps.Step.TheVariants.{Begin, Turn};
+ghost use Rattle.line_tape.specs.declared.steps.Step.TheVariants.{Begin, Turn};
 ghost use Rattle.line_world.specs.Refusals.{refusal_of};
 ghost use Rattle.line_world.specs.Runs.{Takes};
 
 use super::World;
 use crate::protocols::Protocol;
 use crate::replies::{Reply, StepError};
-use line_colours::Turning;
 use line_moves::{TurnCheck, begin_round, list_completed, turn_round};
 use line_names::ProcId;
+use line_rounds::Turning;
 use std::alloc::Global;
 
 impl World {

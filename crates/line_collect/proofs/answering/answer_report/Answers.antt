@@ -1,5 +1,5 @@
 use Rattle.std.proofs.Common.{refl, inl}
-use Rattle.line_answers.specs.Replies.{refusal_record}
+use Rattle.line_text.specs.Replies.{refusal_record}
 use Rattle.line_fields.proofs.OutletLemmas.{one_text}
 use Rattle.line_collect.specs.Answers.{Refused}
 use Rattle.line_collect.specs.declared.reports.Report.TheVariants as reports

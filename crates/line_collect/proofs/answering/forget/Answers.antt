@@ -1,7 +1,7 @@
 use Rattle.std.proofs.Common.{◌≡◌, ◌≢◌, ◌∙◌, ℕ, List, length, ap, refl, sym, rules, inl, inr}
 use Rattle.std.specs.Prelude.{None, ◌∷◌}
-use Rattle.line_answers.specs.Answers.{floors_before, forget_code, forgot_record}
-use Rattle.line_answers.specs.Replies.{refusal_record}
+use Rattle.line_text.specs.Answers.{floors_before, forget_code, forgot_record}
+use Rattle.line_text.specs.Replies.{refusal_record}
 use Rattle.line_claims.specs.Records.{floors_records}
 use Rattle.line_fields.proofs.OutletLemmas.{one_text}
 use Rattle.line_fields.specs.Texts.{record_text, records_text}

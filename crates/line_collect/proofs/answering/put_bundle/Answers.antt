@@ -1,5 +1,5 @@
 use Rattle.std.proofs.Common.{◌≡◌, length, refl}
-use Rattle.line_answers.specs.Answers.{claimed_records, floors_above}
+use Rattle.line_text.specs.Answers.{claimed_records, floors_above}
 use Rattle.line_claims.specs.Records.{in_order, line_claim, version_of}
 use Rattle.line_fields.specs.Texts.{records_text}
 use Rattle.line_collect.specs.Answers.{Given}

@@ -1,5 +1,5 @@
 use Rattle.std.proofs.Common.{◌≡◌, List, length, ap, refl, ◌∙◌, sym}
-use Rattle.line_answers.specs.Answers.{floors_above, shown_records}
+use Rattle.line_text.specs.Answers.{floors_above, shown_records}
 use Rattle.line_fields.specs.Texts.{records_text}
 use Rattle.line_tape.specs.History.{Process}
 use Rattle.line_collect.specs.Answers.{Given}

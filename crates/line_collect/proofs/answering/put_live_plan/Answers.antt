@@ -1,5 +1,5 @@
 use Rattle.std.proofs.Common.{List, length, ap, ◌∙◌, subst}
-use Rattle.line_answers.specs.Answers.{IsEverybody}
+use Rattle.line_text.specs.Answers.{IsEverybody}
 use Rattle.line_collect.specs.Collections.{CollectionView}
 use Rattle.line_tape.specs.History.{Process}
 use Rattle.line_collect.proofs.AnswerLemmas.{live_does}

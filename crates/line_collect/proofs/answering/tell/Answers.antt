@@ -1,5 +1,5 @@
 use Rattle.std.proofs.Common.{rules, ◌≢◌, ◌∷◌, [], ◌∙◌, ℕ, ap, refl, sym}
-use Rattle.line_answers.specs.Replies.{refusal_record}
+use Rattle.line_text.specs.Replies.{refusal_record}
 use Rattle.line_fields.proofs.OutletLemmas.{one_text}
 use Rattle.line_fields.specs.Texts.{record_text}
 use Rattle.line_collect.specs.declared.refusals.CollectError.TheVariants as errors

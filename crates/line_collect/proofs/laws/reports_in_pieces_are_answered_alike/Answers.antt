@@ -1,4 +1,4 @@
-use Rattle.line_conversations.proofs.PieceLemmas.{in_pieces, of_pieces}
+use Rattle.line_text.proofs.PieceLemmas.{in_pieces, of_pieces}
 use Rattle.line_collect.specs.Collecting.{collect_rules}
 use Rattle.line_collect.proofs.laws.reports_in_pieces_are_answered_alike.Goals as goal
 

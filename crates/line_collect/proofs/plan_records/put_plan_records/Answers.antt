@@ -4,7 +4,7 @@ use Rattle.line_fields.proofs.OutletLemmas.{both_texts}
 use Rattle.line_fields.specs.Records.{Record}
 use Rattle.line_fields.specs.Texts.{record_text, records_text}
 use Rattle.line_plan.specs.declared.plans.Plan.{Plan}
-use Rattle.line_answers.specs.Replies.{pass_records, recovered_record, replay_records}
+use Rattle.line_text.specs.Replies.{pass_records, recovered_record, replay_records}
 use Rattle.line_collect.specs.LiveAnswers.{live_going_on_records}
 use Rattle.line_collect.specs.Lives.{LiveCollectionView}
 use Rattle.line_collect.proofs.plan_records.put_plan_records.Goals as goal

@@ -2,7 +2,7 @@
 -- back.
 use Rattle.std.proofs.Common.{sym, subst}
 use Rattle.line_tape.specs.History.{IsHistory}
-use Rattle.line_steps.specs.declared.steps.Step.{Step}
+use Rattle.line_tape.specs.declared.steps.Step.{Step}
 use Rattle.line_world.specs.declared.replies.Answer.TheVariants.{Done, Refused}
 use Rattle.line_world.specs.declared.replies.Reply.{Reply}
 use Rattle.line_world.specs.Machine.{Machine}

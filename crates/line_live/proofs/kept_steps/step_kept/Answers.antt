@@ -1,8 +1,8 @@
 -- The step is asked of what is kept, and its reply, which has few numbers, is brought back.
 use Rattle.std.proofs.Common.{sym, subst}
 use Rattle.line_tape.specs.History.{IsHistory}
-use Rattle.line_steps.specs.declared.steps.Step.{Step}
-use Rattle.line_steps.specs.Shown.{step_of_ref}
+use Rattle.line_tape.specs.declared.steps.Step.{Step}
+use Rattle.line_tape.specs.StepShown.{step_of_ref}
 use Rattle.line_world.specs.declared.replies.Answer.TheVariants.{Done, Refused}
 use Rattle.line_world.specs.declared.replies.Reply.{Reply}
 use Rattle.line_world.specs.Machine.{Machine}

@@ -7,8 +7,8 @@ use Rattle.line_names.specs.declared.messages.MsgName.{MsgName}
 use Rattle.line_tape.specs.History.{Process}
 use Rattle.line_tape.specs.Rounds.{check_line}
 use Rattle.line_tape.specs.Transit.{in_transit}
-use Rattle.line_colours.specs.Channels.{channels_at}
-use Rattle.line_colours.specs.Tables.{between}
+use Rattle.line_rounds.specs.Channels.{channels_at}
+use Rattle.line_rounds.specs.Tables.{between}
 use Rattle.line_cuts.specs.Cuts.{Floor, lost_checks}
 use Rattle.line_moves.specs.Listed.{ListedRound, channel_table, check_in}
 use Rattle.line_live.specs.CutMachines.{cut_listed}

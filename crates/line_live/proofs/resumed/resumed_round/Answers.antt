@@ -7,7 +7,7 @@ use Rattle.line_names.specs.declared.messages.MsgName.{MsgName}
 use Rattle.line_tape.specs.History.{Process}
 use Rattle.line_tape.specs.Rounds.{check_line}
 use Rattle.line_tape.specs.Transit.{in_transit}
-use Rattle.line_colours.specs.Channels.{channels_at}
+use Rattle.line_rounds.specs.Channels.{channels_at}
 use Rattle.line_live.specs.Resumed.{CheckedRound, resumed_round}
 use Rattle.line_live.proofs.ListedCuts.{same_round}
 use Rattle.line_live.proofs.ResumedLemmas.{table_counted}

@@ -9,7 +9,7 @@ use Rattle.line_names.specs.declared.choices.Choice.TheVariants.{Check as AtChec
 use Rattle.line_tape.specs.Fit.{IsFitFifo}
 use Rattle.line_tape.specs.History.{Process, tape_at}
 use Rattle.line_tape.specs.Rounds.{has_check_of, rounds_checked}
-use Rattle.line_steps.specs.declared.modes.Mode.{Mode}
+use Rattle.line_tape.specs.declared.modes.Mode.{Mode}
 use Rattle.line_moves.specs.Listed.{ListedRound, IsSnapshotOf}
 use Rattle.line_moves.specs.Modes.{IsFitIn}
 use Rattle.line_moves.specs.Worlds.{AreNumbered}

@@ -4,8 +4,8 @@ use Rattle.line_names.specs.declared.choices.Choice.{Choice}
 use Rattle.line_tape.specs.History.{Process}
 use Rattle.line_tape.specs.Line.{IsLine}
 use Rattle.line_tape.specs.Transit.{in_transit}
-use Rattle.line_colours.specs.Channels.{channels_at}
-use Rattle.line_colours.proofs.CompletedLemmas.{IsLine-last}
+use Rattle.line_rounds.specs.Channels.{channels_at}
+use Rattle.line_rounds.proofs.CompletedLemmas.{IsLine-last}
 use Rattle.line_moves.specs.Openings.{AreInTransit}
 use Rattle.line_moves.proofs.TurnFacts.{channels_found}
 use Rattle.line_moves.proofs.counts.count_at_last.Goals as goal

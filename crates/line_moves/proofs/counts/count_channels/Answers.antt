@@ -2,7 +2,7 @@
 -- now and the others at their checks.
 use Rattle.std.proofs.Common.{ℕ, List, sym, ◌∙◌}
 use Rattle.line_tape.specs.History.{Process}
-use Rattle.line_colours.specs.Turning.{TurningView}
+use Rattle.line_rounds.specs.Turning.{TurningView}
 use Rattle.line_moves.proofs.TurnFacts.{turn_completed, turn_counted}
 use Rattle.line_moves.proofs.counts.count_channels.Goals as goal
 

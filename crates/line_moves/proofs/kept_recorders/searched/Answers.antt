@@ -1,7 +1,7 @@
 -- The search finds what the process recorded, if it is among these.
 use Rattle.std.proofs.Common.{◌≡◌, ◌≢◌, ℕ, ltb, List, sym, ap, ◌∙◌, arith, rules}
 use Rattle.std.proofs.lemmas.List.Sorted.{IsPartitionPoint-from_clause, IsPartitionedBy-ltb}
-use Rattle.line_marker.specs.Recording.{MarkerView}
+use Rattle.line_rounds.specs.Recording.{MarkerView}
 use Rattle.line_moves.proofs.KeptMarkers.{in_order, search_found, search_lost, search_past, told}
 use Rattle.line_moves.proofs.kept_recorders.searched.Goals as goal
 

@@ -1,7 +1,7 @@
 -- Where nothing was sent or received between the rounds, what one has is what the other has.
 use Rattle.std.proofs.Common.{◌≡◌, List, length, sym, subst}
 use Rattle.line_names.specs.declared.messages.MsgName.{MsgName}
-use Rattle.line_colours.specs.Tables.{between}
+use Rattle.line_rounds.specs.Tables.{between}
 use Rattle.line_moves.specs.Listed.{channel_table}
 use Rattle.line_moves.proofs.LeaningLemmas.{still_channels}
 use Rattle.line_moves.proofs.leanings.again.Goals as goal

@@ -3,7 +3,7 @@ use Rattle.std.proofs.Common.{◌≡◌, List, length, Option}
 use Rattle.std.specs.Prelude.{IfSome}
 use Rattle.std.proofs.lemmas.Result.{IfOk-weaker}
 use Rattle.line_names.specs.declared.messages.MsgName.{MsgName}
-use Rattle.line_colours.specs.Tables.{between}
+use Rattle.line_rounds.specs.Tables.{between}
 use Rattle.line_moves.specs.Listed.{channel_table}
 use Rattle.line_moves.proofs.LeaningLemmas.{leaning_shown}
 use Rattle.line_moves.proofs.leanings.leaning.Goals as goal

@@ -3,7 +3,7 @@ use Rattle.std.proofs.Common.{◌≡◌, ◌++◌, ◌∷◌, [], ℕ, Bool, Lis
 use Rattle.std.specs.Prelude.{MatchOption, if◌then◌else◌}
 use Rattle.line_tape.specs.History.{Process}
 use Rattle.line_tape.specs.Rounds.{is_completed_fifo}
-use Rattle.line_steps.specs.declared.modes.Mode.TheVariants.{Fifo}
+use Rattle.line_tape.specs.declared.modes.Mode.TheVariants.{Fifo}
 use Rattle.line_moves.specs.Listed.{ListedRound, listed_round}
 use Rattle.line_moves.specs.Openings.{OpenView, newly_closed, IsOnlyOpen, IsRecording, IsRunning}
 use Rattle.line_moves.proofs.openings.list_round.Goals as goal

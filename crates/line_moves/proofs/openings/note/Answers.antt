@@ -4,7 +4,7 @@ use Rattle.std.proofs.lemmas.Result.{on_ok_weaker}
 use Rattle.line_tape.specs.declared.events.Event.{Event}
 use Rattle.line_tape.specs.declared.events.Event.TheVariants.{Recv}
 use Rattle.line_tape.specs.History.{Process, with_event}
-use Rattle.line_steps.specs.declared.modes.Mode.TheVariants.{Fifo}
+use Rattle.line_tape.specs.declared.modes.Mode.TheVariants.{Fifo}
 use Rattle.line_moves.specs.Openings.{IsOnlyOpen, IsRunning}
 use Rattle.line_moves.proofs.OpeningLemmas.{IsOpening-none, IsRunning-kept}
 use Rattle.line_moves.proofs.openings.note.Goals as goal

@@ -5,7 +5,7 @@ use Rattle.std.proofs.lemmas.List.{length-map}
 use Rattle.std.proofs.Math.Seq.{map-set_same}
 use Rattle.line_names.specs.declared.messages.MsgName.{MsgName}
 use Rattle.line_tape.specs.History.{Process}
-use Rattle.line_colours.proofs.ChannelLemmas.{addressee_within, sender_within}
+use Rattle.line_rounds.proofs.ChannelLemmas.{addressee_within, sender_within}
 use Rattle.line_moves.specs.Rooms.{items_held, AreUncounted, QueueView}
 use Rattle.line_moves.specs.Worlds.{AreQueues}
 use Rattle.line_moves.proofs.CountLemmas.{row-length, AreUncounted-more, AreUncounted-none}

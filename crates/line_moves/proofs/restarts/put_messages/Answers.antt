@@ -7,9 +7,9 @@ use Rattle.line_tape.specs.declared.items.Item.{Item}
 use Rattle.line_tape.specs.declared.items.Item.TheVariants.{Message}
 use Rattle.line_tape.specs.History.{Process}
 use Rattle.line_tape.specs.Transit.{goes_between}
-use Rattle.line_colours.specs.Tables.{between, with_list}
-use Rattle.line_colours.proofs.ChannelLemmas.{addressee_within, sender_within, ArePut-more}
-use Rattle.line_colours.proofs.ChannelLemmas.{ArePut-none, ArePut-start}
+use Rattle.line_rounds.specs.Tables.{between, with_list}
+use Rattle.line_rounds.proofs.ChannelLemmas.{addressee_within, sender_within, ArePut-more}
+use Rattle.line_rounds.proofs.ChannelLemmas.{ArePut-none, ArePut-start}
 use Rattle.line_moves.specs.Rooms.{items_held, HaveRoom, QueueView}
 use Rattle.line_moves.specs.Worlds.{AreQueues}
 use Rattle.line_moves.proofs.RoomLemmas.{map-changed}

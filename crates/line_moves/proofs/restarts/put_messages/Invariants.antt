@@ -1,6 +1,6 @@
 use Rattle.std.proofs.Common.{map}
 use Rattle.line_tape.specs.declared.items.Item.TheVariants.{Message}
-use Rattle.line_colours.proofs.ChannelLemmas.{ArePut}
+use Rattle.line_rounds.proofs.ChannelLemmas.{ArePut}
 use Rattle.line_moves.specs.Rooms.{items_held, HaveRoom}
 use Rattle.line_moves.specs.Worlds.{AreQueues}
 use Rattle.line_moves.proofs.restarts.put_messages.Given as goal

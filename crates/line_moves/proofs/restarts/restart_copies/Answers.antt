@@ -7,7 +7,7 @@ use Rattle.line_tape.specs.declared.items.Item.TheVariants.{Message}
 use Rattle.line_tape.specs.History.{Process}
 use Rattle.line_tape.specs.Transit.{goes_between}
 use Rattle.line_laws.proofs.LetterLemmas.{open_are, parts}
-use Rattle.line_colours.specs.Tables.{between}
+use Rattle.line_rounds.specs.Tables.{between}
 use Rattle.line_moves.specs.Rooms.{items_held}
 use Rattle.line_moves.proofs.restarts.restart_copies.Goals as goal
 

@@ -4,7 +4,7 @@ use Rattle.line_tape.specs.declared.events.Event.{Event}
 use Rattle.line_tape.specs.declared.events.Event.TheVariants.{Check}
 use Rattle.line_tape.specs.declared.items.Item.{Item}
 use Rattle.line_tape.specs.History.{Process, with_event}
-use Rattle.line_steps.specs.declared.modes.Mode.TheVariants.{Fifo}
+use Rattle.line_tape.specs.declared.modes.Mode.TheVariants.{Fifo}
 use Rattle.line_moves.specs.Worlds.{IsWorld}
 use Rattle.line_moves.proofs.AgreeLemmas.{AgreesNext-check}
 use Rattle.line_moves.proofs.WorldLemmas.{IsWorld-round}

@@ -7,9 +7,9 @@ use Rattle.line_tape.specs.declared.items.Item.TheVariants.{Marker}
 use Rattle.line_tape.specs.History.{Process, tape_at, with_event}
 use Rattle.line_tape.specs.Rounds.{has_check_of}
 use Rattle.line_catalogue.specs.Agreement.{Agrees}
-use Rattle.line_steps.specs.declared.modes.Mode.TheVariants.{Fifo}
+use Rattle.line_tape.specs.declared.modes.Mode.TheVariants.{Fifo}
 use Rattle.line_moves.specs.Queues.{with_on_each}
-use Rattle.line_colours.specs.Tables.{between, with_list}
+use Rattle.line_rounds.specs.Tables.{between, with_list}
 use Rattle.line_moves.specs.Worlds.{IsWorld}
 use Rattle.line_moves.proofs.AgreeLemmas.{AgreesNext-check, AgreesNext-mark}
 use Rattle.line_moves.proofs.LinkLemmas.{length-with_event}

@@ -7,7 +7,7 @@ use Rattle.line_tape.specs.declared.items.Item.{Item}
 use Rattle.line_tape.specs.declared.items.Item.TheVariants.{Marker}
 use Rattle.line_tape.specs.History.{Process, tape_at, with_event}
 use Rattle.line_tape.specs.Rounds.{has_check_of}
-use Rattle.line_steps.specs.declared.modes.Mode.TheVariants.{Fifo}
+use Rattle.line_tape.specs.declared.modes.Mode.TheVariants.{Fifo}
 use Rattle.line_moves.specs.Fates.{is_forced, marker_events}
 use Rattle.line_moves.specs.Moves.{with_events}
 use Rattle.line_moves.specs.Openings.{OpenView, IsOnlyOpen, IsRecording, IsRunning}

@@ -7,7 +7,7 @@ use Rattle.line_tape.specs.declared.events.Event.{Event}
 use Rattle.line_tape.specs.declared.events.Event.TheVariants.{Check}
 use Rattle.line_tape.specs.History.{Process, tape_at, with_event}
 use Rattle.line_tape.specs.Rounds.{has_check_of}
-use Rattle.line_colours.specs.Turning.{IsTurning}
+use Rattle.line_rounds.specs.Turning.{IsTurning}
 use Rattle.line_moves.specs.Listed.{IsSnapshotOf}
 use Rattle.line_moves.specs.Openings.{IsCountedAtRound}
 use Rattle.line_moves.proofs.AgreeLemmas.{AgreesNext-check}

@@ -3,8 +3,8 @@ use Rattle.std.proofs.Common.{◌≡◌, ◌++◌, ◌∷◌, [], ℕ, List, sym
 use Rattle.std.specs.Prelude.{All}
 use Rattle.line_tape.specs.History.{Process, tape_at}
 use Rattle.line_tape.specs.Rounds.{has_check_of}
-use Rattle.line_colours.specs.Turning.{TurningView, IsTurning}
-use Rattle.line_steps.specs.declared.modes.Mode.TheVariants.{Unordered}
+use Rattle.line_rounds.specs.Turning.{TurningView, IsTurning}
+use Rattle.line_tape.specs.declared.modes.Mode.TheVariants.{Unordered}
 use Rattle.line_moves.specs.Listed.{ListedRound, listed_round, IsSnapshotOf}
 use Rattle.line_moves.specs.Openings.{opened_turning, IsCountedAtRound}
 use Rattle.line_moves.proofs.TurnFacts.{closed_round, open_round, round_counted, same_round}

@@ -2,7 +2,7 @@
 use Rattle.std.proofs.Common.{◌≡◌, ℕ, ◌-◌, ◌<◌, List, length, sym, ap, ◌∙◌, subst, arith}
 use Rattle.std.specs.Prelude.{All, remove}
 use Rattle.std.proofs.lemmas.List.{get_or_default}
-use Rattle.line_marker.specs.Recording.{MarkerView}
+use Rattle.line_rounds.specs.Recording.{MarkerView}
 use Rattle.line_moves.specs.Openings.{kept_channel, marker_at, no_marker}
 use Rattle.line_moves.proofs.KeptMarkers.{aligned_ascend, by_process, found_all, kept_removed, told}
 use Rattle.line_moves.proofs.KeptMarkers.{All-removed, Ascend, Ascend-removed}

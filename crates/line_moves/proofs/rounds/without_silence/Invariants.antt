@@ -1,6 +1,6 @@
 use Rattle.std.proofs.Common.{◌≡◌, ℕ, ◌<◌, ◌≤◌, length}
 use Rattle.std.specs.Prelude.{All}
-use Rattle.line_marker.specs.Recording.{MarkerView}
+use Rattle.line_rounds.specs.Recording.{MarkerView}
 use Rattle.line_moves.specs.Openings.{kept_channel, recorded_channel}
 use Rattle.line_moves.proofs.KeptMarkers.{Ascend}
 use Rattle.line_moves.proofs.rounds.without_silence.Given as goal

@@ -1,4 +1,4 @@
-use Rattle.line_conversations.proofs.PieceLemmas.{in_pieces, of_pieces}
+use Rattle.line_text.proofs.PieceLemmas.{in_pieces, of_pieces}
 use Rattle.line_service.specs.Services.{service_rules}
 use Rattle.line_service.proofs.laws.pieces_are_answered_alike.Goals as goal
 

@@ -1,7 +1,7 @@
 use Rattle.std.proofs.Common.{ap}
 use Rattle.line_fields.specs.Texts.{records_text}
 use Rattle.line_service.proofs.SavedRuns.{run_spelt, saved_run_served, saved_texts_alike}
-use Rattle.line_conversations.proofs.TextLemmas.{heard_whole}
+use Rattle.line_text.proofs.TextLemmas.{heard_whole}
 use Rattle.line_service.proofs.laws.saved_scripts_are_served_as_they_run.Goals as goal
 
 pub returns-clause-served : goal.returns-clause-served

@@ -1,4 +1,4 @@
-use Rattle.line_conversations.proofs.TextLemmas.{heard_whole}
+use Rattle.line_text.proofs.TextLemmas.{heard_whole}
 use Rattle.line_service.proofs.FileLemmas.{read_by_lines}
 use Rattle.line_service.proofs.laws.saved_texts_are_read_by_lines.Goals as goal
 

@@ -2,7 +2,7 @@ use Rattle.std.proofs.Common.{ap}
 use Rattle.line_fields.specs.Texts.{records_text}
 use Rattle.line_service.proofs.LawLemmas.{good_as_run, run_as_served, served_as_run, spelt_allowed}
 use Rattle.line_service.proofs.LawLemmas.{texts_alike}
-use Rattle.line_conversations.proofs.TextLemmas.{heard_whole}
+use Rattle.line_text.proofs.TextLemmas.{heard_whole}
 use Rattle.line_service.proofs.laws.scripts_are_served_as_they_run.Goals as goal
 
 pub returns-clause-served : goal.returns-clause-served

@@ -1,5 +1,5 @@
 use Rattle.std.proofs.Common.{subst}
-use Rattle.line_answers.specs.Openings.{IsUnopened}
+use Rattle.line_text.specs.Openings.{IsUnopened}
 use Rattle.line_service.specs.Served.{parts_of}
 use Rattle.line_service.specs.declared.machines.Served.{Served}
 use Rattle.line_service.proofs.texts.open_whole.Goals as goal

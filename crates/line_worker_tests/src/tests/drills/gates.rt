@@ -1,7 +1,7 @@
 //! Gates of the tests.
-use line_drills::Gate;
 use line_posts::Post;
 use line_tape::{EventRef, Tape};
+use line_workers::Gate;
 use std::sync::atomic::{AtomicBool, Ordering};
 use std::thread::yield_now;
 

@@ -1,10 +1,10 @@
 //! Scripts of the tests.
 ghost use Rattle.std.specs.Prelude.{◌<◌, ◌≤◌};
 
-use line_drills::Order;
 use line_names::{Body, ProcId};
 use line_posts::MOST_WORKERS;
 use line_tape::State;
+use line_workers::Order;
 use std::alloc::{AllocError, Global};
 
 /// A message of one byte.

@@ -2,7 +2,7 @@
 use Rattle.std.proofs.Common.{◌≡◌, ℕ, List, Bool, length, sym, subst}
 use Rattle.std.specs.Prelude.{IfSome}
 use Rattle.std.specs.Option.{SomeIff}
-use Rattle.line_answers.specs.Answers.{IsEverybody}
+use Rattle.line_text.specs.Answers.{IsEverybody}
 use Rattle.line_collect.specs.Collections.{CollectionView, IsPlanOf}
 use Rattle.line_collect.specs.Lives.{IsFloorOfLive}
 use Rattle.line_cuts.specs.Cuts.{Floor, FloorSurvives, IsFloor}

@@ -2,7 +2,7 @@
 use Rattle.std.proofs.Common.{sym, ap, ◌∙◌, subst}
 use Rattle.line_tape.specs.Fit.{IsFitFifo}
 use Rattle.line_tape.specs.History.{IsHistory}
-use Rattle.line_steps.specs.declared.modes.Mode.{Mode}
+use Rattle.line_tape.specs.declared.modes.Mode.{Mode}
 use Rattle.line_moves.specs.Modes.{IsFitIn}
 use Rattle.line_world.specs.Machine.{Machine}
 use Rattle.line_world.specs.Steps.{IsPlan}

@@ -9,8 +9,8 @@ use Rattle.line_names.specs.declared.choices.Choice.TheVariants.{Check as AtChec
 use Rattle.line_tape.specs.Fit.{IsFitUnordered}
 use Rattle.line_tape.specs.History.{Process}
 use Rattle.line_laws.proofs.OrderLemmas.{ordered_fit}
-use Rattle.line_steps.specs.declared.modes.Mode.{Mode}
-use Rattle.line_steps.specs.declared.modes.Mode.TheVariants.{Fifo}
+use Rattle.line_tape.specs.declared.modes.Mode.{Mode}
+use Rattle.line_tape.specs.declared.modes.Mode.TheVariants.{Fifo}
 use Rattle.line_moves.specs.Listed.{ListedRound}
 use Rattle.line_moves.specs.Modes.{IsFitIn}
 use Rattle.line_world.specs.Machine.{Machine}

@@ -4,7 +4,7 @@ use Rattle.std.specs.List.{All}
 use Rattle.line_tape.specs.Fit.{IsFitFifo}
 use Rattle.line_tape.specs.History.{IsHistory}
 use Rattle.line_plan.specs.declared.plans.Plan.{Plan}
-use Rattle.line_steps.specs.declared.modes.Mode.{Mode}
+use Rattle.line_tape.specs.declared.modes.Mode.{Mode}
 use Rattle.line_moves.specs.Listed.{IsReached}
 use Rattle.line_moves.specs.Modes.{IsFitIn}
 use Rattle.line_world.specs.Machine.{Machine}

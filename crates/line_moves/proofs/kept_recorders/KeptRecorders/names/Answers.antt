@@ -2,7 +2,7 @@
 use Rattle.std.proofs.Common.{◌≡◌, ℕ, ◌%◌, List, sym, ap, ◌∙◌, rules}
 use Rattle.std.specs.Int.{bit_at}
 use Rattle.std.proofs.lemmas.Nat.Bits.{shr_and_one}
-use Rattle.line_marker.specs.Recording.{MarkerView}
+use Rattle.line_rounds.specs.Recording.{MarkerView}
 use Rattle.line_moves.specs.Openings.{kept_channel}
 use Rattle.line_moves.proofs.KeptMarkers.{none_recorded, told}
 use Rattle.line_moves.proofs.kept_recorders.KeptRecorders.names.Goals as goal

@@ -1,7 +1,7 @@
 -- The bit of each of the processes is set in its turn.
 use Rattle.std.proofs.Common.{◌∙◌, ℕ, List, sym, ap, arith}
 use Rattle.std.proofs.lemmas.List.{get_or_default}
-use Rattle.line_marker.specs.Recording.{MarkerView}
+use Rattle.line_rounds.specs.Recording.{MarkerView}
 use Rattle.line_moves.proofs.KeptMarkers.{bits_more}
 use Rattle.line_moves.proofs.kept_recorders.KeptRecorders.of.Goals as goal
 

@@ -1,6 +1,6 @@
 use Rattle.std.proofs.Common.{◌≡◌, ℕ, ◌<◌, ◌%◌, get_or}
 use Rattle.std.specs.Int.{bit_at}
-use Rattle.line_marker.specs.Recording.{MarkerView}
+use Rattle.line_rounds.specs.Recording.{MarkerView}
 use Rattle.line_moves.proofs.kept_recorders.KeptRecorders.of.Given as goal
 
 abbrev pub invariant-each : goal.invariant-each

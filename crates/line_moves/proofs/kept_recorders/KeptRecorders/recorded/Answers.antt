@@ -1,6 +1,6 @@
 -- Markers ascend, so one of the process is the only one of it, wherever it stands.
 use Rattle.std.proofs.Common.{◌≡◌, List, sym, ap, ◌∙◌, subst, arith}
-use Rattle.line_marker.specs.Recording.{MarkerView}
+use Rattle.line_rounds.specs.Recording.{MarkerView}
 use Rattle.line_moves.specs.Openings.{kept_channel, AreByProcess}
 use Rattle.line_moves.proofs.KeptMarkers.{found_here, told}
 use Rattle.line_moves.proofs.kept_recorders.KeptRecorders.recorded.Goals as goal

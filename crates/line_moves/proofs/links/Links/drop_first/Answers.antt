@@ -2,7 +2,7 @@
 use Rattle.std.proofs.Common.{◌≡◌, ◌<◌, [], List, ℕ, length, get_or, set, drop, map, ap, ◌∙◌, arith}
 use Rattle.std.proofs.lemmas.List.{length-map}
 use Rattle.line_tape.specs.declared.items.Item.{Item}
-use Rattle.line_colours.specs.Tables.{between, with_list}
+use Rattle.line_rounds.specs.Tables.{between, with_list}
 use Rattle.line_moves.specs.Rooms.{QueueView, items_held}
 use Rattle.line_moves.proofs.RoomLemmas.{map-changed}
 use Rattle.line_moves.proofs.links.Links.drop_first.Goals as goal

@@ -6,7 +6,7 @@ use Rattle.std.proofs.lemmas.Result.{on_err_weaker, on_ok_weaker}
 use Rattle.std.proofs.Math.ListN.{get_or-map}
 use Rattle.std.proofs.Math.Seq.{map-set_same}
 use Rattle.line_tape.specs.declared.items.Item.{Item}
-use Rattle.line_colours.specs.Tables.{between, with_list}
+use Rattle.line_rounds.specs.Tables.{between, with_list}
 use Rattle.line_moves.specs.Rooms.{QueueView, items_held}
 use Rattle.line_moves.proofs.RoomLemmas.{map-changed}
 use Rattle.line_moves.proofs.links.Links.push.Goals as goal

@@ -1,12 +1,12 @@
 -- Its channel from the sender is closed and empty, and the others are open.
 use Rattle.std.proofs.Common.{◌≡◌, ◌<◌, ℕ, ◌+◌, false, List, length, get_or, set, Some, sym, ap}
 use Rattle.std.proofs.Common.{◌∙◌, subst, arith}
-use Rattle.line_marker.specs.Recording.{MarkerView, with_marker, with_round}
+use Rattle.line_rounds.specs.Recording.{MarkerView, with_marker, with_round}
 use Rattle.line_tape.specs.declared.events.Event.TheVariants.{Check, Mark}
 use Rattle.line_tape.specs.Event.{checks}
 use Rattle.line_tape.specs.History.{Process, tape_at, with_event}
 use Rattle.line_tape.specs.Rounds.{has_check_of}
-use Rattle.line_colours.specs.Turning.{TurningView, IsTurning}
+use Rattle.line_rounds.specs.Turning.{TurningView, IsTurning}
 use Rattle.line_moves.specs.Openings.{OpenView, marker_at, AreMarkers, IsRecording}
 use Rattle.line_moves.proofs.OpenFacts.{IsRecording-forced, own_marker}
 use Rattle.line_moves.proofs.RecordingLemmas.{recorded_none}

@@ -3,12 +3,12 @@ use Rattle.std.proofs.Common.{◌≡◌, ◌<◌, ℕ, true, false, List, Option
 use Rattle.std.proofs.Common.{refl, sym, ap, ◌∙◌, subst, arith}
 use Rattle.std.specs.Prelude.{IsTrue, MatchOption}
 use Rattle.std.proofs.lemmas.Bool.{both_ways, true_from_ne_false}
-use Rattle.line_marker.specs.Recording.{MarkerView, RecordedRound, channel_at, round_of}
-use Rattle.line_marker.specs.Recording.{with_marker}
+use Rattle.line_rounds.specs.Recording.{MarkerView, RecordedRound, channel_at, round_of}
+use Rattle.line_rounds.specs.Recording.{with_marker}
 use Rattle.line_tape.specs.declared.events.Event.TheVariants.{Mark}
 use Rattle.line_tape.specs.History.{Process, tape_at, with_event}
 use Rattle.line_tape.specs.Rounds.{has_check_of}
-use Rattle.line_colours.specs.Turning.{TurningView}
+use Rattle.line_rounds.specs.Turning.{TurningView}
 use Rattle.line_moves.specs.Openings.{OpenView, marker_at, AreMarkers, IsRecording}
 use Rattle.line_moves.proofs.OpenFacts.{IsRecording-heard, IsRecording-repeated, own_marker}
 use Rattle.line_moves.proofs.RecordingLemmas.{recorded_round, recorded_there}

@@ -2,14 +2,14 @@
 use Rattle.std.proofs.Common.{◌≡◌, ℕ, ◌<◌, List, length, sym, ap, ◌∙◌, subst, arith, inl, inr}
 use Rattle.std.specs.Prelude.{◌↔◌, IsTrue}
 use Rattle.std.proofs.lemmas.Bool.{both_ways, cases_lt, false_from_ne_true}
-use Rattle.line_marker.specs.Recording.{IsOver}
+use Rattle.line_rounds.specs.Recording.{IsOver}
 use Rattle.line_tape.specs.History.{Process}
 use Rattle.line_tape.specs.Rounds.{is_closed_at, is_completed_fifo}
 use Rattle.line_laws.proofs.CompletionLemmas.{completed_closed, completed_from}
 use Rattle.line_moves.specs.Openings.{OpenView, IsRecording}
 use Rattle.line_moves.proofs.OpenFacts.{closed_is}
 use Rattle.line_moves.proofs.ToComeLemmas.{none_to_come}
-use Rattle.line_colours.specs.Turning.{TurningView}
+use Rattle.line_rounds.specs.Turning.{TurningView}
 use Rattle.line_moves.proofs.openings.OpenRound.is_completed.Goals as goal
 
 pub each-preserved : goal.each-preserved

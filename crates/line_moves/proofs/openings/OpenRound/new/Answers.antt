@@ -1,8 +1,8 @@
 -- All its markers are to come.
 use Rattle.std.proofs.Common.{◌≡◌, ℕ, ◌*◌, ◌-◌, List, length, refl, sym, ap, ◌∙◌, subst}
 use Rattle.std.proofs.lemmas.List.{length-replicate}
-use Rattle.line_marker.specs.Recording.{MarkerView}
-use Rattle.line_colours.specs.Turning.{TurningView}
+use Rattle.line_rounds.specs.Recording.{MarkerView}
+use Rattle.line_rounds.specs.Turning.{TurningView}
 use Rattle.line_moves.specs.Openings.{AreMarkers, AreToCome}
 use Rattle.line_moves.proofs.ToComeLemmas.{AreToCome-fresh}
 use Rattle.line_moves.proofs.openings.OpenRound.new.Goals as goal

@@ -1,11 +1,11 @@
 -- The message is on the channel from its sender, if that is open.
 use Rattle.std.proofs.Common.{◌≡◌, ◌<◌, ℕ, List, length, get_or, sym, ap, ◌∙◌, subst, arith}
 use Rattle.std.proofs.lemmas.Result.{on_err_weaker, on_ok_weaker}
-use Rattle.line_marker.specs.Recording.{MarkerView}
+use Rattle.line_rounds.specs.Recording.{MarkerView}
 use Rattle.line_tape.specs.History.{Process}
-use Rattle.line_colours.specs.Turning.{TurningView}
+use Rattle.line_rounds.specs.Turning.{TurningView}
 use Rattle.line_moves.specs.Openings.{OpenView, marker_at, AreMarkers, IsRecording}
-use Rattle.line_marker.specs.Recording.{rounds_with_message}
+use Rattle.line_rounds.specs.Recording.{rounds_with_message}
 use Rattle.line_moves.proofs.OpenFacts.{IsRecording-noted, IsRecording-same, either_way, own_marker}
 use Rattle.line_moves.proofs.ToComeLemmas.{AreMarkers-set, AreToCome-noted, AreToCome-same}
 use Rattle.line_moves.proofs.openings.OpenRound.note.Goals as goal

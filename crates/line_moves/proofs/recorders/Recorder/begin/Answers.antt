@@ -1,7 +1,7 @@
 -- Its channels are open and empty.
 use Rattle.std.proofs.Common.{◌≡◌, ℕ, Bool, List, ap, ◌∙◌}
 use Rattle.line_names.specs.declared.messages.MsgName.{MsgName}
-use Rattle.line_marker.specs.Recording.{MarkerView, RecordedRound, with_round}
+use Rattle.line_rounds.specs.Recording.{MarkerView, RecordedRound, with_round}
 use Rattle.line_moves.specs.Recorders.{rounds_noted}
 use Rattle.line_moves.proofs.RecorderLemmas.{begun_rounds}
 use Rattle.line_moves.proofs.recorders.Recorder.begin.Goals as goal

@@ -2,7 +2,7 @@
 use Rattle.std.proofs.Common.{◌≡◌, ℕ, Bool, List, Option, Some, refl, sym, ap, ◌∙◌, subst, arith}
 use Rattle.std.proofs.lemmas.Bool.{false≢true}
 use Rattle.line_names.specs.declared.messages.MsgName.{MsgName}
-use Rattle.line_marker.specs.Recording.{MarkerView, RecordedRound, with_marker}
+use Rattle.line_rounds.specs.Recording.{MarkerView, RecordedRound, with_marker}
 use Rattle.line_moves.specs.Recorders.{rounds_noted}
 use Rattle.line_moves.proofs.RecorderLemmas.{IsOpenAt, closed_rounds, open_elsewhere, open_here}
 use Rattle.line_moves.proofs.RecorderLemmas.{open_not}

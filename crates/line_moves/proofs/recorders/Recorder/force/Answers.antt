@@ -1,7 +1,7 @@
 -- Its channel from the sender is closed.
 use Rattle.std.proofs.Common.{◌≡◌, ℕ, Bool, List, ap, ◌∙◌, arith}
 use Rattle.line_names.specs.declared.messages.MsgName.{MsgName}
-use Rattle.line_marker.specs.Recording.{MarkerView, RecordedRound, with_marker, with_round}
+use Rattle.line_rounds.specs.Recording.{MarkerView, RecordedRound, with_marker, with_round}
 use Rattle.line_moves.specs.Recorders.{rounds_noted}
 use Rattle.line_moves.proofs.RecorderLemmas.{forced_rounds}
 use Rattle.line_moves.proofs.recorders.Recorder.force.Goals as goal

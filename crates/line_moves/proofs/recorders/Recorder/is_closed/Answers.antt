@@ -2,7 +2,7 @@
 use Rattle.std.proofs.Common.{◌≡◌, ℕ, Bool, List, Option, Some, sym, ap, ◌∙◌, subst}
 use Rattle.std.proofs.lemmas.Bool.{false≢true}
 use Rattle.line_names.specs.declared.messages.MsgName.{MsgName}
-use Rattle.line_marker.specs.Recording.{MarkerView, RecordedRound}
+use Rattle.line_rounds.specs.Recording.{MarkerView, RecordedRound}
 use Rattle.line_moves.specs.Recorders.{rounds_noted}
 use Rattle.line_moves.proofs.RecorderLemmas.{IsOverAt, here_over, over_elsewhere, over_here}
 use Rattle.line_moves.proofs.recorders.Recorder.is_closed.Goals as goal

@@ -2,7 +2,7 @@
 use Rattle.std.proofs.Common.{◌≡◌, ℕ, Bool, List, [], Option, Some, get_or, sym, ap, ◌∙◌, arith}
 use Rattle.std.specs.Option.{unwrap_or}
 use Rattle.line_names.specs.declared.messages.MsgName.{MsgName}
-use Rattle.line_marker.specs.Recording.{MarkerView, RecordedRound, messages_by, round_of}
+use Rattle.line_rounds.specs.Recording.{MarkerView, RecordedRound, messages_by, round_of}
 use Rattle.line_moves.specs.Recorders.{rounds_noted}
 use Rattle.line_moves.proofs.RecorderLemmas.{names_elsewhere, names_here}
 use Rattle.line_moves.proofs.recorders.Recorder.names.Goals as goal

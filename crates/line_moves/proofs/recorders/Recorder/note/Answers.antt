@@ -2,7 +2,7 @@
 use Rattle.std.proofs.Common.{◌≡◌, ℕ, Bool, List, Option, Some, sym, ap, ◌∙◌, arith}
 use Rattle.std.proofs.lemmas.Result.{on_ok_weaker}
 use Rattle.line_names.specs.declared.messages.MsgName.{MsgName}
-use Rattle.line_marker.specs.Recording.{MarkerView, RecordedRound, rounds_with_message}
+use Rattle.line_rounds.specs.Recording.{MarkerView, RecordedRound, rounds_with_message}
 use Rattle.line_moves.specs.Recorders.{rounds_noted}
 use Rattle.line_moves.proofs.RecorderLemmas.{noted_rounds, unnoted_rounds}
 use Rattle.line_moves.proofs.recorders.Recorder.note.Goals as goal

@@ -3,10 +3,10 @@ use Rattle.std.proofs.Common.{◌≡◌, ℕ, List, [], length, Option, Some, No
 use Rattle.std.proofs.Common.{cond, inl, inr}
 use Rattle.std.specs.Prelude.{◌==◌}
 use Rattle.std.proofs.lemmas.Bool.{cases_eq, eq-eqb}
-use Rattle.line_marker.specs.Recording.{MarkerView}
+use Rattle.line_rounds.specs.Recording.{MarkerView}
 use Rattle.line_names.specs.declared.messages.MsgName.{MsgName}
-use Rattle.line_colours.specs.Tables.{between}
-use Rattle.line_colours.proofs.TableLemmas.{between-of, table_of-all, IsTable-of}
+use Rattle.line_rounds.specs.Tables.{between}
+use Rattle.line_rounds.proofs.TableLemmas.{between-of, table_of-all, IsTable-of}
 use Rattle.line_moves.specs.Listed.{ListedRound, channel_in, channel_table}
 use Rattle.line_moves.specs.Openings.{channels_kept, kept_channel}
 use Rattle.line_moves.proofs.OpeningLemmas.{table_cell}

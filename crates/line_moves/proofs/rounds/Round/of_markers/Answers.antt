@@ -1,6 +1,6 @@
 -- What its checks and its markers say is what the tapes say.
 use Rattle.std.proofs.Common.{◌≡◌, ◌<◌, ℕ, List, length, None, sym, subst, ap, ◌∙◌, arith}
-use Rattle.line_marker.specs.Recording.{MarkerView}
+use Rattle.line_rounds.specs.Recording.{MarkerView}
 use Rattle.line_tape.specs.History.{Process}
 use Rattle.line_moves.specs.Listed.{ListedRound}
 use Rattle.line_moves.specs.Openings.{kept_channel, recorded_channel, recorded_table, AreChannels}

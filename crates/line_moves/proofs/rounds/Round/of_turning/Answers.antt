@@ -1,6 +1,6 @@
 -- The channels that were counted are those of the round.
 use Rattle.std.proofs.Common.{ℕ, List, length, ap, ◌∙◌, sym, subst}
-use Rattle.line_colours.specs.Tables.{IsTable}
+use Rattle.line_rounds.specs.Tables.{IsTable}
 use Rattle.line_moves.proofs.TurnFacts.{counted_is}
 use Rattle.line_moves.proofs.rounds.Round.of_turning.Goals as goal
 

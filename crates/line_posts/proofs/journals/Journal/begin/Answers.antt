@@ -1,5 +1,5 @@
 use Rattle.std.proofs.Common.{◌∙◌, ◌++◌, ◌∷◌, [], ◌<◌, ap, sym, subst}
-use Rattle.line_marker.specs.Recording.{latest}
+use Rattle.line_rounds.specs.Recording.{latest}
 use Rattle.line_tape.specs.declared.events.Event.{Event}
 use Rattle.line_posts.specs.Journals.{JournalView}
 use Rattle.line_posts.proofs.JournalLemmas.{journal_next, on_ok_at, unchecked, begun_by}

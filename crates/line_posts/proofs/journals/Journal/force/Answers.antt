@@ -1,5 +1,5 @@
 use Rattle.std.proofs.Common.{◌≡◌, ◌≢◌, ◌∙◌, ◌++◌, ◌∷◌, [], ◌<◌, false, Some, ap, sym, subst}
-use Rattle.line_marker.specs.Recording.{with_marker}
+use Rattle.line_rounds.specs.Recording.{with_marker}
 use Rattle.line_tape.specs.Rounds.{has_check_of}
 use Rattle.line_tape.specs.declared.events.Event.TheVariants.{Check, Mark}
 use Rattle.line_posts.specs.Journals.{JournalView, rounds_by}

@@ -1,5 +1,5 @@
 use Rattle.std.proofs.Common.{◌∙◌, ◌<◌, sym, ap, subst}
-use Rattle.line_marker.specs.Recording.{latest}
+use Rattle.line_rounds.specs.Recording.{latest}
 use Rattle.line_tape.specs.Rounds.{has_check_of}
 use Rattle.line_posts.specs.Journals.{JournalView}
 use Rattle.line_posts.proofs.JournalLemmas.{unchecked}

@@ -1,5 +1,5 @@
 use Rattle.std.proofs.Common.{◌≡◌, ◌≢◌, ◌∙◌, ◌<◌, true, ap, sym, subst}
-use Rattle.line_marker.specs.Recording.{with_marker}
+use Rattle.line_rounds.specs.Recording.{with_marker}
 use Rattle.line_tape.specs.Rounds.{has_check_of}
 use Rattle.line_posts.specs.Journals.{JournalView}
 use Rattle.line_posts.proofs.JournalLemmas.{journal_next, heard_by_marker}

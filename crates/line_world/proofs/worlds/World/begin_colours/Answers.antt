@@ -4,14 +4,14 @@ use Rattle.std.proofs.Common.{◌∙◌, subst}
 use Rattle.line_tape.specs.declared.events.Event.{Event}
 use Rattle.line_tape.specs.declared.events.Event.TheVariants.{Check as CheckEvent}
 use Rattle.line_tape.specs.History.{Process, with_event}
-use Rattle.line_colours.specs.Kept.{ProcessTurns, AreTurned}
-use Rattle.line_colours.specs.Turning.{TurningView}
-use Rattle.line_colours.proofs.FlagLemmas.{AreFlagged-other}
-use Rattle.line_steps.specs.declared.modes.Mode.TheVariants.{Unordered}
+use Rattle.line_rounds.specs.Kept.{ProcessTurns, AreTurned}
+use Rattle.line_rounds.specs.Turning.{TurningView}
+use Rattle.line_rounds.proofs.FlagLemmas.{AreFlagged-other}
+use Rattle.line_tape.specs.declared.modes.Mode.TheVariants.{Unordered}
 use Rattle.line_moves.specs.Listed.{ListedRound, newly_listed}
 use Rattle.line_moves.specs.Openings.{newly_closed, opened_by, IsListedOrOpen}
 use Rattle.line_world.specs.declared.replies.Reply.TheVariants.{Begun}
-use Rattle.line_steps.specs.declared.steps.Step.TheVariants.{Begin}
+use Rattle.line_tape.specs.declared.steps.Step.TheVariants.{Begin}
 use Rattle.line_world.specs.declared.worlds.World.TheInside.{Inside}
 use Rattle.line_world.specs.Machine.{Machine}
 use Rattle.line_world.specs.Protocols.{mode_of}

@@ -6,13 +6,13 @@ use Rattle.line_tape.specs.declared.events.Event.{Event}
 use Rattle.line_tape.specs.declared.events.Event.TheVariants.{Check as CheckEvent}
 use Rattle.line_tape.specs.History.{Process, tape_at, with_event}
 use Rattle.line_tape.specs.Rounds.{has_check_of}
-use Rattle.line_steps.specs.declared.modes.Mode.TheVariants.{Fifo}
+use Rattle.line_tape.specs.declared.modes.Mode.TheVariants.{Fifo}
 use Rattle.line_moves.specs.Listed.{ListedRound, newly_listed}
 use Rattle.line_moves.specs.Openings.{OpenView, left_open, newly_closed, IsRecording, IsRunning}
 use Rattle.line_moves.specs.Worlds.{AreRounds, IsWorld}
 use Rattle.line_moves.proofs.OpeningLemmas.{listed_snapshot}
 use Rattle.line_world.specs.declared.replies.Reply.TheVariants.{Begun}
-use Rattle.line_steps.specs.declared.steps.Step.TheVariants.{Begin}
+use Rattle.line_tape.specs.declared.steps.Step.TheVariants.{Begin}
 use Rattle.line_world.specs.declared.worlds.World.TheInside.{Inside}
 use Rattle.line_world.specs.Machine.{Machine}
 use Rattle.line_world.specs.Protocols.{mode_of}

@@ -4,11 +4,11 @@ use Rattle.std.proofs.Common.{ap, ◌∙◌, subst}
 use Rattle.line_tape.specs.declared.events.Event.{Event}
 use Rattle.line_tape.specs.declared.items.Item.TheVariants.{Marker}
 use Rattle.std.specs.Prelude.{nat_lt, slice_get}
-use Rattle.line_colours.specs.Tables.{between}
+use Rattle.line_rounds.specs.Tables.{between}
 use Rattle.line_tape.specs.declared.limits.TheConstants.{MOST_EVENTS}
 use Rattle.line_tape.specs.History.{Process, tape_at}
 use Rattle.line_tape.specs.Rounds.{has_check_of}
-use Rattle.line_steps.specs.declared.modes.Mode.TheVariants.{Fifo}
+use Rattle.line_tape.specs.declared.modes.Mode.TheVariants.{Fifo}
 use Rattle.line_moves.specs.Fates.{is_forced, marker_events}
 use Rattle.line_moves.specs.Listed.{ListedRound, newly_listed}
 use Rattle.line_moves.specs.Moves.{with_events}
@@ -19,7 +19,7 @@ use Rattle.line_moves.proofs.WorldLemmas.{marker_sent}
 use Rattle.line_world.specs.declared.replies.Answer.TheVariants.{Done}
 use Rattle.line_world.specs.declared.replies.Reply.{Reply}
 use Rattle.line_world.specs.declared.replies.Reply.TheVariants.{Marked}
-use Rattle.line_steps.specs.declared.steps.Step.TheVariants.{Deliver}
+use Rattle.line_tape.specs.declared.steps.Step.TheVariants.{Deliver}
 use Rattle.line_world.specs.declared.worlds.World.TheInside.{Inside}
 use Rattle.line_world.specs.Machine.{Machine, items_on, with_step}
 use Rattle.line_world.specs.Protocols.{mode_of}

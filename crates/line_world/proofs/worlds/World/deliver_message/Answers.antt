@@ -10,12 +10,12 @@ use Rattle.line_tape.proofs.HistoryLemmas.{IsHistory-at}
 use Rattle.line_moves.specs.declared.fates.Fate.{Fate}
 use Rattle.line_moves.specs.declared.fates.Fate.TheVariants.{Stale as IsStale}
 use Rattle.line_moves.specs.declared.fates.Fate.TheVariants.{Repeated as IsRepeated}
-use Rattle.line_steps.specs.declared.modes.Mode.TheVariants.{Unordered}
+use Rattle.line_tape.specs.declared.modes.Mode.TheVariants.{Unordered}
 use Rattle.line_moves.specs.Fates.{events_of, fate_of, forced_round}
 use Rattle.line_world.specs.declared.replies.Answer.TheVariants.{Done}
 use Rattle.line_world.specs.declared.replies.Reply.{Reply}
 use Rattle.line_world.specs.declared.replies.Reply.TheVariants.{Stale, Repeated}
-use Rattle.line_steps.specs.declared.steps.Step.TheVariants.{Deliver}
+use Rattle.line_tape.specs.declared.steps.Step.TheVariants.{Deliver}
 use Rattle.line_world.specs.declared.worlds.World.TheInside.{Inside}
 use Rattle.line_world.specs.Machine.{Machine, items_on}
 use Rattle.line_world.specs.Protocols.{mode_of}

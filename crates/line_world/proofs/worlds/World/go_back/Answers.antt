@@ -11,11 +11,11 @@ use Rattle.line_tape.specs.Restart.{HaveFurther, restarted_history, restarted_ma
 use Rattle.line_tape.specs.Transit.{in_transit, in_transit_between}
 use Rattle.line_tape.specs.Views.{MarksView}
 use Rattle.line_world.specs.declared.replies.StepError.TheVariants.{NoMoreIncarnations}
-use Rattle.line_steps.specs.declared.steps.Step.TheVariants.{Recover}
-use Rattle.line_steps.specs.declared.modes.Mode.{Mode}
+use Rattle.line_tape.specs.declared.steps.Step.TheVariants.{Recover}
+use Rattle.line_tape.specs.declared.modes.Mode.{Mode}
 use Rattle.line_world.specs.Machine.{Machine}
 use Rattle.line_moves.specs.Modes.{copies_in}
-use Rattle.line_colours.specs.Tables.{between}
+use Rattle.line_rounds.specs.Tables.{between}
 use Rattle.line_world.specs.declared.worlds.World.TheInside.{Inside}
 use Rattle.line_world.specs.Protocols.{mode_of, open_round_of, IsFollowing}
 use Rattle.line_world.proofs.KnownFacts.{kept_with}

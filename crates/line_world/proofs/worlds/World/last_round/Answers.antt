@@ -7,7 +7,7 @@ use Rattle.line_tape.specs.Rounds.{has_check_of}
 use Rattle.line_moves.specs.Openings.{first_unlisted}
 use Rattle.line_moves.specs.Worlds.{AreNumbered}
 use Rattle.line_moves.proofs.OpeningLemmas.{first_most, open_told, AreNumbered-weaker}
-use Rattle.line_steps.specs.declared.modes.Mode.TheVariants.{Fifo}
+use Rattle.line_tape.specs.declared.modes.Mode.TheVariants.{Fifo}
 use Rattle.line_world.specs.declared.worlds.World.TheInside.{Inside}
 use Rattle.line_world.specs.Idle.{IsIdle}
 use Rattle.line_world.specs.Machine.{Machine, is_open}

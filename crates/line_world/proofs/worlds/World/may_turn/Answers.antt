@@ -1,7 +1,7 @@
 -- A process may turn to the round that is kept as open if it has no check of it.
 use Rattle.std.proofs.Common.{Option, Some, None, sym, ap, ◌∙◌, subst}
-use Rattle.line_colours.specs.Turning.{TurningView}
-use Rattle.line_steps.specs.declared.modes.Mode.TheVariants.{Unordered}
+use Rattle.line_rounds.specs.Turning.{TurningView}
+use Rattle.line_tape.specs.declared.modes.Mode.TheVariants.{Unordered}
 use Rattle.line_moves.specs.Openings.{opened_turning}
 use Rattle.line_moves.specs.Worlds.{AreRounds}
 use Rattle.line_moves.proofs.TurnFacts.{may_turn_none, may_turn_some}

@@ -4,7 +4,7 @@ use Rattle.line_names.specs.declared.messages.MsgName.{MsgName}
 use Rattle.line_tape.specs.declared.items.Item.{Item}
 use Rattle.line_tape.specs.History.{Process, fresh}
 use Rattle.line_tape.specs.Views.{MarksView, no_marks}
-use Rattle.line_steps.specs.declared.modes.Mode.{Mode}
+use Rattle.line_tape.specs.declared.modes.Mode.{Mode}
 use Rattle.line_moves.specs.Listed.{ListedRound}
 use Rattle.line_moves.specs.Worlds.{AreRounds, IsWorld}
 use Rattle.line_world.proofs.KnownFacts.{kept_with}

@@ -10,14 +10,14 @@ use Rattle.line_tape.specs.Event.{sends}
 use Rattle.line_tape.specs.Fit.{IsFitUnordered}
 use Rattle.line_tape.specs.History.{Process, tape_at, incarnation_at, with_event}
 use Rattle.line_world.specs.declared.replies.Reply.TheVariants.{Sent}
-use Rattle.line_steps.specs.declared.steps.Step.TheVariants.{Send}
+use Rattle.line_tape.specs.declared.steps.Step.TheVariants.{Send}
 use Rattle.line_world.specs.Machine.{Machine}
 use Rattle.line_world.specs.Refusals.{refusal_of}
 use Rattle.line_world.specs.Steps.{Does}
 use Rattle.line_moves.specs.Openings.{OpenView}
 use Rattle.line_moves.specs.Worlds.{IsWorld}
 use Rattle.line_moves.specs.Listed.{ListedRound}
-use Rattle.line_steps.specs.declared.modes.Mode.{Mode}
+use Rattle.line_tape.specs.declared.modes.Mode.{Mode}
 use Rattle.line_tape.specs.declared.events.Event.{Event}
 use Rattle.line_moves.proofs.OpeningLemmas.{AreRounds-kept, IsOpening-kept, none_listed}
 use Rattle.line_moves.specs.Modes.{IsFitIn}

@@ -2,8 +2,8 @@
 use Rattle.std.proofs.Common.{ℕ, List, subst, sym, ap, ◌∙◌}
 use Rattle.std.specs.Prelude.{IfOk}
 use Rattle.line_world.specs.declared.replies.Answer.TheVariants.{Done}
-use Rattle.line_steps.specs.declared.steps.Step.{Step}
-use Rattle.line_steps.specs.declared.steps.Step.TheVariants.{Send, Check, Begin, Turn}
+use Rattle.line_tape.specs.declared.steps.Step.{Step}
+use Rattle.line_tape.specs.declared.steps.Step.TheVariants.{Send, Check, Begin, Turn}
 use Rattle.line_world.specs.Runs.{Takes}
 use Rattle.line_world.proofs.worlds.World.step.Goals as goal
 

@@ -2,9 +2,9 @@
 use Rattle.std.proofs.Common.{subst, sym}
 use Rattle.std.specs.Prelude.{IfOk}
 use Rattle.line_world.specs.declared.replies.Answer.TheVariants.{Done}
-use Rattle.line_steps.specs.declared.steps.StepRef.{StepRef}
+use Rattle.line_tape.specs.declared.steps.StepRef.{StepRef}
 use Rattle.line_world.specs.Runs.{Takes}
-use Rattle.line_steps.specs.Shown.{step_of_ref}
+use Rattle.line_tape.specs.StepShown.{step_of_ref}
 use Rattle.line_world.proofs.worlds.World.step_lent.Goals as goal
 
 pub returns-in-Send-clause-done : goal.returns-in-Send-clause-done

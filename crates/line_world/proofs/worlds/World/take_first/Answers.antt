@@ -9,14 +9,14 @@ use Rattle.line_tape.specs.declared.items.Item.{Item}
 use Rattle.line_tape.specs.declared.items.Item.TheVariants.{Message}
 use Rattle.line_tape.specs.declared.limits.TheConstants.{MOST_EVENTS}
 use Rattle.line_tape.specs.History.{Process, tape_at, with_event}
-use Rattle.line_steps.specs.declared.modes.Mode.TheVariants.{Fifo}
+use Rattle.line_tape.specs.declared.modes.Mode.TheVariants.{Fifo}
 use Rattle.line_moves.specs.Openings.{OpenView, IsOnlyOpen}
 use Rattle.line_moves.specs.Worlds.{IsWorld}
 use Rattle.line_moves.proofs.OpeningLemmas.{none_listed, AreRounds-kept, AreRounds-renewed}
 use Rattle.line_moves.proofs.WorldLemmas.{IsWorld-held, IsWorld-take}
 use Rattle.line_world.specs.declared.replies.Answer.TheVariants.{Done}
 use Rattle.line_world.specs.declared.replies.Reply.TheVariants.{Took}
-use Rattle.line_steps.specs.declared.steps.Step.TheVariants.{Deliver}
+use Rattle.line_tape.specs.declared.steps.Step.TheVariants.{Deliver}
 use Rattle.line_world.specs.declared.worlds.World.TheInside.{Inside}
 use Rattle.line_world.specs.Machine.{Machine, items_on}
 use Rattle.line_world.specs.Protocols.{mode_of}

@@ -8,12 +8,12 @@ use Rattle.line_tape.specs.declared.events.Event.TheVariants.{Recv}
 use Rattle.line_tape.specs.declared.items.Item.TheVariants.{Message}
 use Rattle.line_tape.specs.declared.limits.TheConstants.{MOST_EVENTS}
 use Rattle.line_tape.specs.History.{Process, tape_at, with_event}
-use Rattle.line_colours.specs.Kept.{ProcessTurns}
-use Rattle.line_colours.specs.Flags.{AreFlagged}
-use Rattle.line_colours.specs.Turning.{TurningView}
+use Rattle.line_rounds.specs.Kept.{ProcessTurns}
+use Rattle.line_rounds.specs.Flags.{AreFlagged}
+use Rattle.line_rounds.specs.Turning.{TurningView}
 use Rattle.line_moves.specs.declared.fates.Fate.{Fate}
 use Rattle.line_moves.specs.declared.fates.Fate.TheVariants.{Taken as IsTaken}
-use Rattle.line_steps.specs.declared.modes.Mode.TheVariants.{Unordered}
+use Rattle.line_tape.specs.declared.modes.Mode.TheVariants.{Unordered}
 use Rattle.line_moves.specs.Fates.{events_of, fate_of, forced_round}
 use Rattle.line_moves.specs.Openings.{opened_turning}
 use Rattle.line_moves.specs.Worlds.{AreRounds, IsPainted, IsWorld}
@@ -22,7 +22,7 @@ use Rattle.line_moves.proofs.WorldLemmas.{IsWorld-take}
 use Rattle.line_world.specs.declared.replies.Answer.TheVariants.{Done}
 use Rattle.line_world.specs.declared.replies.Reply.{Reply}
 use Rattle.line_world.specs.declared.replies.Reply.TheVariants.{Took}
-use Rattle.line_steps.specs.declared.steps.Step.TheVariants.{Deliver}
+use Rattle.line_tape.specs.declared.steps.Step.TheVariants.{Deliver}
 use Rattle.line_world.specs.declared.worlds.World.TheInside.{Inside}
 use Rattle.line_world.specs.Machine.{Machine, items_on, with_step}
 use Rattle.line_world.specs.Protocols.{mode_of}

@@ -3,13 +3,13 @@ use Rattle.std.proofs.Common.{◌≡◌, ℕ, Bool, List, [], ◌∷◌, Some, N
 use Rattle.line_tape.specs.declared.events.Event.{Event}
 use Rattle.line_tape.specs.declared.events.Event.TheVariants.{Check as CheckEvent}
 use Rattle.line_tape.specs.History.{Process, with_event}
-use Rattle.line_colours.specs.Kept.{ProcessTurns, AreTurned}
-use Rattle.line_colours.proofs.FlagLemmas.{AreFlagged-other}
-use Rattle.line_steps.specs.declared.modes.Mode.TheVariants.{Unordered}
+use Rattle.line_rounds.specs.Kept.{ProcessTurns, AreTurned}
+use Rattle.line_rounds.proofs.FlagLemmas.{AreFlagged-other}
+use Rattle.line_tape.specs.declared.modes.Mode.TheVariants.{Unordered}
 use Rattle.line_moves.specs.Listed.{ListedRound, newly_listed}
 use Rattle.line_moves.specs.Openings.{newly_closed, opened_by, IsListedOrOpen}
 use Rattle.line_world.specs.declared.replies.Reply.TheVariants.{Turned as TurnedTo}
-use Rattle.line_steps.specs.declared.steps.Step.TheVariants.{Turn}
+use Rattle.line_tape.specs.declared.steps.Step.TheVariants.{Turn}
 use Rattle.line_world.specs.declared.worlds.World.TheInside.{Inside}
 use Rattle.line_world.specs.Machine.{Machine}
 use Rattle.line_world.specs.Protocols.{mode_of}

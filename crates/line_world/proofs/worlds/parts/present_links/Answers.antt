@@ -7,7 +7,7 @@ use Rattle.line_tape.specs.declared.items.Item.TheVariants.{Message}
 use Rattle.line_tape.specs.History.{Process}
 use Rattle.line_tape.specs.Line.{IsLine}
 use Rattle.line_tape.specs.Transit.{in_transit_between}
-use Rattle.line_colours.specs.Tables.{between}
+use Rattle.line_rounds.specs.Tables.{between}
 use Rattle.line_moves.specs.Worlds.{AreQueues}
 use Rattle.line_world.proofs.ResumeLemmas.{empty_queues, present_is, present_world}
 use Rattle.line_world.proofs.worlds.parts.present_links.Goals as goal

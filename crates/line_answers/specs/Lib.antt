@@ -1,5 +1,0 @@
-pub mod Answers
-pub mod Live
-pub mod Openings
-pub mod Replies
-pub mod Rounds

@@ -1,7 +1,0 @@
-use Rattle.std.proofs.Common.{take}
-use Rattle.line_colours.specs.Inboxes.{AreByAddressee}
-use Rattle.line_colours.proofs.channels.gather.Given as goal
-
-abbrev pub invariant-loop-message : goal.invariant-loop-message
-invariant-loop-message l = AreByAddressee l.history.processes (take l.message-index l.messages)
-    l.rows.items

@@ -1,6 +1,0 @@
-use Rattle.std.proofs.Common.{◌≡◌, replicate}
-use Rattle.line_colours.specs.Kept.{no_turns}
-use Rattle.line_colours.proofs.colours.Colours.new.Given as goal
-
-abbrev pub invariant-loop-p : goal.invariant-loop-p
-invariant-loop-p l = l.processes.items ≡ replicate l._p no_turns

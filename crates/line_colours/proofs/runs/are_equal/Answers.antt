@@ -1,6 +1,0 @@
-use Rattle.std.proofs.lemmas.Slice.Eq.{slice_eq-Decides}
-use Rattle.line_colours.proofs.NameLemmas.{name-Decides}
-use Rattle.line_colours.proofs.runs.are_equal.Goals as goal
-
-pub returns : goal.returns
-returns c = slice_eq-Decides name-Decides c.args.one.now c.args.other.now c.eq.result c.eq.ensures

@@ -1,9 +1,0 @@
-pub mod Kept
-pub mod Turning
-pub mod Tables
-pub mod Channels
-pub mod Runs
-pub mod Stores
-pub mod Inboxes
-pub mod Flags
-pub mod Colours

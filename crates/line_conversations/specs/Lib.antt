@@ -1,6 +1,0 @@
-pub mod Answers
-pub mod Conversations
-pub mod Lines
-pub mod Progress
-pub mod Rules
-pub mod Turns

@@ -1,7 +1,0 @@
-mod ScriptLemmas
-mod DrillLemmas
-mod FaultLemmas
-mod CrossingLemmas
-mod MarkerLemmas
-mod WaitLemmas
-mod GateLemmas

@@ -1,4 +1,0 @@
-pub mod Scripts
-pub mod Followed
-pub mod Faults
-pub mod MadeDrills

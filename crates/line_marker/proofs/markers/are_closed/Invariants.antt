@@ -1,8 +1,0 @@
-use Rattle.std.proofs.Common.{◌≢◌, ℕ, ◌<◌, get_or}
-use Rattle.std.specs.Prelude.{IsTrue}
-use Rattle.line_marker.specs.declared.spans.Span.{Span}
-use Rattle.line_marker.specs.Spans.{is_over}
-use Rattle.line_marker.proofs.markers.are_closed.Given as goal
-
-abbrev pub invariant-each : goal.invariant-each
-invariant-each l = (k : ℕ) (d : Span) → k < l.q → k ≢ l.me → IsTrue (is_over (get_or l.spans k d))

@@ -1,9 +1,0 @@
-use Rattle.std.proofs.Common.{◌-◌, length}
-use Rattle.line_marker.specs.Spans.{AreOver}
-use Rattle.line_marker.proofs.markers.further.Given as goal
-
-abbrev pub invariant-further : goal.invariant-further
-invariant-further l = AreOver l.p l.k l.rounds
-
-abbrev pub decreases-further : goal.decreases-further
-decreases-further l = length l.rounds - l.k

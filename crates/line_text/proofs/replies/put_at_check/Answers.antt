@@ -1,0 +1,4 @@
+use Rattle.line_text.proofs.replies.put_at_check.Goals as goal
+
+pub returns : goal.returns
+returns g c = rw c.get.ensures.value at c.put_numbers.ensures
