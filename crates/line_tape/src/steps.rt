@@ -1,7 +1,7 @@
 //! What the machine is asked to do.
 
+use crate::events::State;
 use line_names::{Body, ProcId, ProcSet};
-use line_tape::State;
 
 /// One step.
 #[derive(Debug, Drop)]
