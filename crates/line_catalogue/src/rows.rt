@@ -23,9 +23,13 @@ use std::marker::Model;
 #[derive(Drop)]
 pub struct ProcessRows {
     rows: Vec<KeptRow>,
-    /// The vectors of the rows, one after the other.
+    /// The vectors of the rows in parts of sixteen lanes, each vector with where its parts begin:
+    /// a part that no receipt has changed is shared with the vectors before.
     lanes: Vec<u32>,
     present: Reach,
+    /// Where the parts of the present vector begin among the lanes; `NOT_LAID` of a part in which
+    /// something was received since.
+    starts: Vec<u32>,
     /// Whether something was received since the last vector among the lanes.
     heard: bool,
     /// For how many further checks there is room, or fewer. Before an event this number alone is
@@ -46,58 +50,36 @@ impl Model for ProcessRows {
       room = p.room;
     } };
 
-    ghost invariant = { λ p. AreLaid p.lanes.items p.rows.items p.heard p.present
+    ghost invariant = { λ p. AreLaid p.lanes.items p.rows.items p.heard p.starts.items p.present
         × HaveRowRoom p.room (vec_capacity p.rows - vec_len p.rows)
-        (vec_capacity p.lanes - vec_len p.lanes) (length p.present) };
+        (vec_capacity p.lanes - vec_len p.lanes) (width_of (length p.present)) };
 }
 
-/// Puts the vector of where a process stands after the others, unless it is the last of them
-/// already, in room that was made for it.
-fn lay(lanes: &mut Vec<u32>, present: &Reach, heard: bool)
-    requires last { heard ≡ false → EndWith lanes.old.items present.now }
-    requires room { vec_len lanes.old + length present.now ≤ vec_capacity lanes.old }
-    ensures items { lanes.new.items ≡ lanes.old.items ++ (if heard then present.now else []) }
-    ensures last { EndWith lanes.new.items present.now }
-    ensures len { vec_len lanes.new ≤ vec_len lanes.old + length present.now }
+/// In place of where a part begins: it was changed since it was laid.
+const NOT_LAID: u32 = u32::MAX;
+
+/// Puts the parts that were changed since the last vector after the others, and then where the
+/// parts of the present vector begin, in room that was made for it.
+fn lay(lanes: &mut Vec<u32>, present: &Reach, starts: &mut Vec<u32>)
+    requires count { length starts.old.items ≡ parts_of (length present.now) }
+    requires held { AreHeld lanes.old.items starts.old.items present.now }
+    requires few { vec_len lanes.old + width_of (length present.now) < NOT_LAID }
+    requires room { vec_len lanes.old + width_of (length present.now) ≤ vec_capacity lanes.old }
+    ensures kept { take (vec_len lanes.old) lanes.new.items ≡ lanes.old.items }
+    ensures held { AreHeld lanes.new.items starts.new.items present.now }
+    ensures last { EndWith lanes.new.items starts.new.items }
+    ensures laid { AreAllLaid starts.new.items (vec_len lanes.new) }
+    ensures count { length starts.new.items ≡ parts_of (length present.now) }
+    ensures len { vec_len lanes.new ≤ vec_len lanes.old + width_of (length present.now) }
     ensures capacity { vec_capacity lanes.old ≤ vec_capacity lanes.new }
 {
-    if heard {
-        lanes.extend_from_slice(present.lanes()).unwrap();
+    for k in 0..starts.len() {
+        if starts[k] == NOT_LAID {
+            starts[k] = lanes.len() as u32;
+            lanes.extend_from_slice(part_of(present.lanes(), k)).unwrap();
+        }
     }
-}
-
-/// Adds the row of a check, with the vector of where the process stands, in room that was made for
-/// both.
-fn add_row(
-    rows: &mut Vec<KeptRow>,
-    lanes: &mut Vec<u32>,
-    present: &Reach,
-    heard: bool,
-    place: u32,
-    sends: u32,
-)
-    requires laid { AreLaid lanes.old.items rows.old.items heard present.now }
-    requires few { vec_len rows.old ≤ MOST_EVENTS }
-    requires room { vec_len rows.old < vec_capacity rows.old }
-    requires vector { vec_len lanes.old + length present.now ≤ vec_capacity lanes.old }
-    ensures rows { map (row_of (length present.now) lanes.new.items) rows.new.items
-        ≡ map (row_of (length present.now) lanes.old.items) rows.old.items
-        ++ new_row place sends present.now ∷ [] }
-    ensures laid { AreLaid lanes.new.items rows.new.items false present.now }
-    ensures len { vec_len rows.new ≡ vec_len rows.old + 1 }
-    ensures capacity { vec_capacity rows.new ≡ vec_capacity rows.old }
-    ensures lanes { vec_len lanes.new ≤ vec_len lanes.old + length present.now }
-    ensures lanes_capacity { vec_capacity lanes.old ≤ vec_capacity lanes.new }
-{
-    lay(lanes, present, heard);
-    let n = present.n();
-    let start = (lanes.len() - n) as u32;
-    rows.push_reserved(KeptRow {
-        place,
-        sends,
-        start,
-        damaged: false,
-    });
+    lanes.extend_from_slice(starts.as_slice()).unwrap();
 }
 
 /// Lets go of the rows and vectors after a choice, whose vector becomes that of where the process

@@ -117,7 +117,7 @@ greater_on_whole a new b same g =
 
 -- ---- where the first list is over the second
 
-take_short : {X : Type 0} (n : ℕ) (xs : List X) → length (take n xs) ≤ n
+pub take_short : {X : Type 0} (n : ℕ) (xs : List X) → length (take n xs) ≤ n
 take_short zero xs = omega arith
 take_short (suc n) [] = omega arith
 take_short (suc n) (x ∷ xs) = let h = take_short n xs in omega (arith, h)
@@ -134,7 +134,7 @@ at_place : (a b : List ℕ) (i : ℕ) → i < length a → i < length b
 at_place a b i la lb = get_or-zip2 (λ x y. ltb y x) a b i 0 0 false la lb
 
 -- to count over the fronts is to count in the front of the comparisons
-count_parts : (a b : List ℕ) (n : ℕ)
+pub count_parts : (a b : List ℕ) (n : ℕ)
     → over_count (take n a) (take n b) ≡ count_by (λ over. over) (take n (overs a b))
 count_parts a b n = ap (λ ms. count_by (λ over. over) ms) (sym (take-zip2 (λ x y. ltb y x) n a b))
 

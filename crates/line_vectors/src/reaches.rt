@@ -1,12 +1,14 @@
 //! How much a process has heard of the others.
 ghost use Rattle.std.specs.Prelude.{◌≡◌, ◌<◌, ◌≤◌, ◌↔◌, IsTrue, IfOk, MatchOption, length};
-ghost use Rattle.std.specs.Prelude.{replicate, slice_index};
+ghost use Rattle.std.specs.Prelude.{◌*◌, drop, replicate, slice_index, take};
 ghost use Rattle.line_vectors.specs.Lanes.{greater_of, over_count};
+ghost use Rattle.line_vectors.specs.Parts.{ArePartsAmong, parted};
 ghost use Rattle.line_vectors.specs.Vectors.{lanes_with_message, Fits, FitsBefore, IsFirstBeyond};
 
+use crate::kernels::{count_over, first_over_from, max_into};
 use crate::limits::LAST_NUMBER;
+use crate::parts::{PART, part_of, parts_of};
 use crate::sents::Sent;
-use crate::{all_le, count_over, first_over_from, max_into};
 use line_names::{MOST_PROCESSES, MsgName, ProcId};
 use std::alloc::{AllocError, Global};
 use std::marker::Model;
@@ -28,22 +30,32 @@ impl Model for Reach {
     ghost invariant = { λ r. length r.lanes.items ≤ MOST_PROCESSES };
 }
 
-/// A vector whose lanes something else keeps.
+/// A vector whose lanes something else keeps, in parts of sixteen lanes. Where each part begins
+/// among the lanes is told, so that vectors which differ in few lanes can share the other parts.
 #[derive(Drop)]
 pub struct ReachRef<'a> {
+    starts: &'a [u32],
     lanes: &'a [u32],
+    n: usize,
 }
 
 impl<'a> Model for ReachRef<'a> {
     ghost use Rattle.std.specs.Prelude.{List, ℕ, ◌≤◌, length};
     ghost use Rattle.line_names.specs.declared.limits.TheConstants.{MOST_PROCESSES};
+    ghost use Rattle.line_vectors.specs.Parts.{ArePartsAmong, parted};
 
     ghost Value = { List ℕ };
 
-    ghost view = { λ r. r.lanes.now };
+    ghost view = { λ r. parted r.n r.starts.now r.lanes.now };
 
-    ghost invariant = { λ r. length r.lanes.now ≤ MOST_PROCESSES };
+    ghost invariant = { λ r.
+        (r.n ≤ MOST_PROCESSES) × ArePartsAmong r.n r.starts.now (length r.lanes.now) };
 }
+
+/// Where the parts of a vector begin that stand one after the other.
+static STARTS: [u32; 16] = [
+    0, 16, 32, 48, 64, 80, 96, 112, 128, 144, 160, 176, 192, 208, 224, 240,
+];
 
 impl Reach {
     /// The vector of nothing, of `n` processes: all lanes are 0.
@@ -75,9 +87,7 @@ impl Reach {
     pub fn as_ref(&self) -> ReachRef<'_>
         ensures { result ≡ self.now }
     {
-        ReachRef {
-            lanes: self.lanes.as_slice(),
-        }
+        ReachRef::of(self.lanes.as_slice())
     }
 
     /// One more than the greatest number noted of a process's messages, or 0.
@@ -126,7 +136,10 @@ impl Reach {
         requires { length self.old ≡ length other.now }
         ensures { self.new ≡ other.now }
     {
-        self.lanes.as_mut_slice().copy_from_slice(other.lanes);
+        let n = self.lanes.len();
+        for q in 0..n {
+            self.lanes[q] = other.lane(ProcId::try_new(q as u32, n as u32).unwrap());
+        }
     }
 
     /// Whether no lane is over its process's count of sends.
@@ -160,7 +173,20 @@ impl<'a> ReachRef<'a> {
         requires { length lanes.now ≤ MOST_PROCESSES }
         ensures { result ≡ lanes.now }
     {
-        ReachRef { lanes }
+        ReachRef {
+            starts: STARTS.as_slice(),
+            lanes,
+            n: lanes.len(),
+        }
+    }
+
+    /// The vector of `n` lanes whose parts begin among these lanes where the first of `starts` say.
+    pub fn in_parts(starts: &'a [u32], lanes: &'a [u32], n: usize) -> ReachRef<'a>
+        requires few { n ≤ MOST_PROCESSES }
+        requires among { ArePartsAmong n starts.now (length lanes.now) }
+        ensures { result ≡ parted n starts.now lanes.now }
+    {
+        ReachRef { starts, lanes, n }
     }
 
     /// One more than the greatest number noted of a process's messages, or 0.
@@ -168,14 +194,19 @@ impl<'a> ReachRef<'a> {
         requires { p < length self.now }
         ensures { result ≡ slice_index self.now p }
     {
-        self.lanes[p.get() as usize]
+        let at = p.get() as usize;
+        self.lanes[self.starts[at / PART] as usize + at % PART]
     }
 
-    /// The lanes in the order of the processes.
-    pub fn lanes(&self) -> &'a [u32]
-        ensures { result.now ≡ self.now }
+    /// The lanes of one part.
+    fn part(&self, k: usize) -> &'a [u32]
+        requires { k * PART < length self.now }
+        ensures { result.now ≡ take PART (drop (k * PART) self.now) }
     {
-        self.lanes
+        let lanes = self.lanes;
+        let start = self.starts[k] as usize;
+        let len = PART.min(self.n - k * PART);
+        &lanes[start..start + len]
     }
 
     /// Whether no lane is over its process's count of sends.
@@ -183,7 +214,7 @@ impl<'a> ReachRef<'a> {
         requires { length self.now ≡ length sent.now }
         ensures { IsTrue result ↔ Fits self.now sent.now }
     {
-        all_le(self.lanes, sent.counts())
+        self.first_beyond(sent).is_none()
     }
 
     /// The first process whose lane is over its count of sends, if there is one.
@@ -202,10 +233,14 @@ impl<'a> ReachRef<'a> {
         requires none { FitsBefore self.now sent.now from }
         ensures { MatchOption result (Fits self.now sent.now) (IsFirstBeyond self.now sent.now) }
     {
-        match first_over_from(self.lanes, sent.counts(), from) {
-            Some(p) => Some(ProcId::try_new(p as u32, self.lanes.len() as u32).unwrap()),
-            None => None,
+        for k in from / PART..parts_of(self.n) {
+            let at = k * PART;
+            let known = from.saturating_sub(at);
+            if let Some(i) = first_over_from(self.part(k), part_of(sent.counts(), k), known) {
+                return Some(ProcId::try_new((at + i) as u32, self.n as u32).unwrap());
+            }
         }
+        None
     }
 
     /// How many lanes are over their processes' counts of sends.
@@ -213,6 +248,10 @@ impl<'a> ReachRef<'a> {
         requires { length self.now ≡ length sent.now }
         ensures { result ≡ over_count self.now sent.now }
     {
-        count_over(self.lanes, sent.counts())
+        let mut total = 0;
+        for k in 0..parts_of(self.n) {
+            total += count_over(self.part(k), part_of(sent.counts(), k));
+        }
+        total
     }
 }
