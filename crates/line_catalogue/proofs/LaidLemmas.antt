@@ -1,21 +1,31 @@
 -- What rows show of the lanes, as rows and vectors come and go.
-use Rattle.std.proofs.Common.{◌≡◌, ℕ, ◌+◌, ◌*◌, ◌-◌, ◌<◌, ◌≤◌, Bool, false, true, cond, List, []}
+use Rattle.std.proofs.Common.{◌≡◌, ℕ, ◌+◌, ◌*◌, ◌-◌, ◌<◌, ◌≤◌, Bool, false, true, List, []}
 use Rattle.std.proofs.Common.{◌∷◌, ◌++◌, length, take, drop, map, get_or, set, inl, inr, sym, ap}
-use Rattle.std.proofs.Common.{◌∙◌, subst, arith}
+use Rattle.std.proofs.Common.{◌/◌, ◌%◌, ◌∙◌, subst, arith}
 use Rattle.std.proofs.lemmas.Bool.{cases_eq, cases_lt}
-use Rattle.std.proofs.lemmas.List.{drop-append-le, drop-take, ext_get_or, get_or-map}
-use Rattle.std.proofs.lemmas.List.{get_or-set_other, get_or-set_same, get_or-take}
+use Rattle.std.proofs.lemmas.List.{ext_get_or, get_or-map}
+use Rattle.std.proofs.lemmas.List.{get_or-drop, get_or-set_other, get_or-set_same, get_or-take}
 use Rattle.std.proofs.lemmas.List.{get_or_append_left, get_or_default, get_or_past, get_or_push}
-use Rattle.std.proofs.lemmas.List.{length-append, length-drop, length-map, length-take-le}
-use Rattle.std.proofs.lemmas.List.{length_push, map-append, map-set, take-append-drop}
-use Rattle.std.proofs.lemmas.List.{take-append-le, take-map, take_all}
+use Rattle.std.proofs.lemmas.List.{length-drop, length-map, length-take}
+use Rattle.std.proofs.lemmas.List.{length-take-le}
+use Rattle.std.proofs.lemmas.List.{length_push, map-append, map-set}
+use Rattle.std.proofs.lemmas.List.{take-map}
+use Rattle.std.proofs.lemmas.Nat.{mul-le}
 use Rattle.std.proofs.Math.Nat.{add-mul}
+use Rattle.line_names.specs.declared.limits.TheConstants.{MOST_PROCESSES}
+use Rattle.line_tape.specs.declared.limits.TheConstants.{MOST_EVENTS}
+use Rattle.line_catalogue.specs.declared.rows.TheConstants.{NOT_LAID}
 use Rattle.line_names.specs.declared.choices.Choice.TheVariants.{Check as AtCheck}
 use Rattle.line_tape.specs.declared.events.Event.{Event}
 use Rattle.line_tape.specs.Front.{place}
+use Rattle.line_vectors.specs.declared.parts.TheConstants.{PART}
+use Rattle.line_vectors.specs.Parts.{ArePartsAmong, parts_of}
+use Rattle.line_vectors.specs.Parts.{place_in_parts}
+use Rattle.line_vectors.proofs.PartLemmas.{lane-parted, length-parted}
 use Rattle.line_catalogue.specs.declared.kept_rows.KeptRow.{KeptRow}
 use Rattle.line_catalogue.specs.declared.kept_rows.Row.{Row}
-use Rattle.line_catalogue.specs.Laid.{AreAmong, AreLaid, EndWith, row_of}
+use Rattle.line_catalogue.specs.Laid.{AreAmong, AreHeld, AreLaid, EndWith, IsAmong, row_of}
+use Rattle.line_catalogue.specs.Laid.{starts_at, vector_behind, width_of}
 use Rattle.line_catalogue.specs.Rows.{AreInStep, WithPlaces, new_row, no_row, with_damage}
 
 -- a row of nothing, for a check that there isn't
@@ -24,23 +34,56 @@ no_kept = record { place = 0; sends = 0; start = 0; damaged = false }
 
 -- ---- vectors among lanes
 
--- a vector among the first lanes is the same among more
-vector-more : (n start : ℕ) (lanes more : List ℕ) → start + n ≤ length lanes
-    → take n (drop start (lanes ++ more)) ≡ take n (drop start lanes)
-vector-more n start lanes more within =
-    ap (take n) (drop-append-le start lanes more (omega (arith, within)))
-    ∙ take-append-le n (drop start lanes) more (omega (arith, within, length-drop start lanes))
+-- both lists begin with the same numbers, so many
+abbrev pub BeginAlike : ℕ → List ℕ → List ℕ → Type 0
+BeginAlike m one other = (i : ℕ) → i < m → get_or one i 0 ≡ get_or other i 0
 
--- and so is its row
-row-more : (n : ℕ) (lanes more : List ℕ) (row : KeptRow) → row.start + n ≤ length lanes
-    → row_of n (lanes ++ more) row ≡ row_of n lanes row
-row-more n lanes more row within =
+-- where a part of a vector begins, read among the lanes
+pub start-in : (n start : ℕ) (lanes : List ℕ) (p : ℕ) → p < n
+    → get_or (starts_at n lanes start) (p / PART) 0 ≡ get_or lanes (start + p / PART) 0
+start-in n start lanes p within =
+    get_or-take (parts_of n) (drop start lanes) (p / PART) 0 (omega (arith, within))
+    ∙ get_or-drop start lanes (p / PART) 0
+
+module _ (n start m : ℕ) (one other : List ℕ) (told : start + parts_of n ≤ m)
+    (alike : BeginAlike m one other) where
+  place-same : (p : ℕ) → p < n
+      → place_in_parts (starts_at n one start) p ≡ place_in_parts (starts_at n other start) p
+  place-same p within = ap (λ i. i + p % PART)
+      (start-in n start one p within ∙ alike (start + p / PART) (omega (arith, told, within)) ∙ sym
+      (start-in n start other p within))
+
+  -- what is among the one is among the other
+  pub among-same : IsAmong n one start → m ≤ length other → IsAmong n other start
+  among-same among long = record {
+    told = omega (arith, told, long);
+    before = λ p h. omega (arith, among.before p h, place-same p h);
+  }
+
+  -- and is the same vector there
+  pub vector-same : IsAmong n one start → vector_behind n one start ≡ vector_behind n other start
+  vector-same among =
+      let starts : List ℕ = starts_at n one start in
+      let others : List ℕ = starts_at n other start in
+      ext_get_or 0 (vector_behind n one start) (vector_behind n other start)
+      (length-parted n starts one ∙ sym (length-parted n others other)) (λ p h.
+      let within : p < n = omega (arith, h, length-parted n starts one) in
+      lane-parted n starts one p 0 within
+      ∙ alike (place_in_parts starts p) (omega (arith, among.before p within, told))
+      ∙ ap (λ i. get_or other i 0) (place-same p within)
+      ∙ sym (lane-parted n others other p 0 within))
+
+-- a row whose vector is the same
+row-same : (n : ℕ) (one other : List ℕ) (row : KeptRow)
+    → vector_behind n one row.start ≡ vector_behind n other row.start
+    → row_of n one row ≡ row_of n other row
+row-same n one other row same =
     ap (λ (vector : List ℕ). record {
       place = row.place;
       sends = row.sends;
       damaged = row.damaged;
       reach = vector;
-    }) (vector-more n row.start lanes more within)
+    }) same
 
 -- rows are shown the same where each is
 map-same : (f g : KeptRow → Row) (rows : List KeptRow) → ((c : ℕ) → c < length rows
@@ -51,53 +94,43 @@ map-same f g rows same = ext_get_or no_row (map f rows) (map g rows)
     get_or-map f rows c no_kept no_row within ∙ same c within ∙ sym
     (get_or-map g rows c no_kept no_row within))
 
--- further lanes change no row
-pub rows-more : (n : ℕ) (lanes more : List ℕ) (rows : List KeptRow) → AreAmong n (length lanes) rows
-    → map (row_of n (lanes ++ more)) rows ≡ map (row_of n lanes) rows
-rows-more n lanes more rows among = map-same (row_of n (lanes ++ more)) (row_of n lanes) rows
-    (λ c h. row-more n lanes more (get_or rows c no_kept) (among c no_kept h))
-
--- lanes that end with a vector are no fewer
-pub end-long : (lanes vector : List ℕ) → EndWith lanes vector → length vector ≤ length lanes
-end-long lanes vector ends = omega
-    (arith, length-drop (length lanes - length vector) lanes, ap (λ (xs : List ℕ). length xs) ends)
-
--- what is put there is no longer than the vector
-pub more-few : (heard : Bool) (vector : List ℕ) → length (cond heard vector []) ≤ length vector
-more-few true vector = omega arith
-more-few false vector = omega arith
+-- rows are shown the same among lanes that begin alike
+rows-same : (n m : ℕ) (one other : List ℕ) (rows : List KeptRow) → AreAmong n one rows
+    → ((c : ℕ) → c < length rows → (get_or rows c no_kept).start + parts_of n ≤ m)
+    → BeginAlike m one other → map (row_of n one) rows ≡ map (row_of n other) rows
+rows-same n m one other rows among told alike =
+    map-same (row_of n one) (row_of n other) rows (λ c h.
+    let row : KeptRow = get_or rows c no_kept in
+    row-same n one other row
+    (vector-same n row.start m one other (told c h) alike (among c no_kept h)))
 
 -- ---- a row more
 
 -- the rows are laid among the lanes, and show these
-pub record Shows (lanes : List ℕ) (rows : List KeptRow) (heard : Bool) (present : List ℕ) (n : ℕ)
-    (shown : List Row) : Type 0 where
-  pub laid : AreLaid lanes rows heard present
+pub record Shows (lanes : List ℕ) (rows : List KeptRow) (heard : Bool) (starts present : List ℕ)
+    (n : ℕ) (shown : List Row) : Type 0 where
+  pub laid : AreLaid lanes rows heard starts present
   pub shows : map (row_of n lanes) rows ≡ shown
 
-module _ (lanes more present : List ℕ) (rows : List KeptRow) (heard : Bool) (place sends : ℕ)
-    (laid : AreLaid lanes rows heard present) (few : length more ≤ length present)
-    (ends : EndWith (lanes ++ more) present) where
+module _ (lanes longer old_starts starts present : List ℕ) (rows : List KeptRow) (heard : Bool)
+    (place sends : ℕ) (laid : AreLaid lanes rows heard old_starts present)
+    (kept : take (length lanes) longer ≡ lanes) (more : length lanes ≤ length longer)
+    (few : length longer ≤ length lanes + width_of (length present))
+    (ends : EndWith longer present) (held : AreHeld longer starts present)
+    (count : length starts ≡ parts_of (length present)) where
+  abbrev n : ℕ
+  n = length present
+
   abbrev added-row : KeptRow
   added-row = record {
     place = place;
     sends = sends;
-    start = length
-        (lanes ++ more) - length present;
+    start = length longer - parts_of n;
     damaged = false;
   }
 
-  -- how many lanes there are
-  many : length (lanes ++ more) ≡ length lanes + length more
-  many = length-append lanes more
-
-  long : length present ≤ length (lanes ++ more)
-  long = end-long (lanes ++ more) present ends
-
-  -- the vector of the new row is the present one
-  row-added : row_of (length present) (lanes ++ more) added-row ≡ new_row place sends present
-  row-added = ap (λ (vector : List ℕ). new_row place sends vector)
-      (ap (take (length present)) ends ∙ take_all (length present) present (omega arith))
+  alike : BeginAlike (length lanes) lanes longer
+  alike i h = sym (ap (λ (xs : List ℕ). get_or xs i 0) kept) ∙ get_or-take (length lanes) longer i 0 h
 
   -- the start of an old row, and of the new one
   start-old : (c : ℕ) (d : KeptRow) → c < length rows
@@ -105,14 +138,16 @@ module _ (lanes more present : List ℕ) (rows : List KeptRow) (heard : Bool) (p
   start-old c d h = ap (λ (r : KeptRow). r.start) (get_or_append_left rows (added-row ∷ []) d c h)
 
   start-new : (c : ℕ) (d : KeptRow) → c < length (rows ++ added-row ∷ []) → length rows ≤ c
-      → (get_or (rows ++ added-row ∷ []) c d).start ≡ length (lanes ++ more) - length present
+      → (get_or (rows ++ added-row ∷ []) c d).start ≡ length longer - parts_of n
   start-new c d h behind = ap (λ (r : KeptRow). r.start)
       (get_or_push rows added-row d c (omega (arith, behind, h, length_push rows added-row)))
 
-  added-among : AreAmong (length present) (length (lanes ++ more)) (rows ++ added-row ∷ [])
+  added-among : AreAmong n longer (rows ++ added-row ∷ [])
   added-among c d h = elim (cases_lt c (length rows)) [
-    | inl before ↦ omega (arith, laid.among c d before, start-old c d before, many)
-    | inr behind ↦ omega (arith, start-new c d h behind, long)
+    | inl before ↦ subst (IsAmong n longer) (sym (start-old c d before))
+        (among-same n (get_or rows c d).start (length lanes) lanes longer
+        (laid.among c d before).told alike (laid.among c d before) more)
+    | inr behind ↦ subst (IsAmong n longer) (sym (start-new c d h behind)) ends.among
   ]
 
   added-ordered : (k c : ℕ) (d : KeptRow) → k ≤ c → c < length (rows ++ added-row ∷ [])
@@ -126,15 +161,24 @@ module _ (lanes more present : List ℕ) (rows : List KeptRow) (heard : Bool) (p
           d (omega (arith, below, before)),
     )
     | inr behind ↦ elim (cases_lt k (length rows)) [
-      | inl first ↦ omega
-          (arith, laid.among k d first, start-old k d first, start-new c d h behind, many)
+      | inl first ↦ omega (
+        arith,
+        (laid.among k d first).told,
+        start-old k d first,
+        start-new c d h behind,
+        more,
+      )
       | inr last ↦ omega
           (arith, start-new k d (omega (arith, below, h)) last, start-new c d h behind)
     ]
   ]
 
+  -- where the new row's vector is told of, the lanes end
+  ended : length longer - parts_of n + parts_of n ≡ length longer
+  ended = omega (arith, ends.among.told)
+
   added-early : (c : ℕ) (d : KeptRow) → c < length (rows ++ added-row ∷ [])
-      → (get_or (rows ++ added-row ∷ []) c d).start ≤ c * length present
+      → (get_or (rows ++ added-row ∷ []) c d).start + parts_of n ≤ (c + 1) * width_of n
   added-early c d h = elim (cases_lt c (length rows)) [
     | inl before ↦ omega (arith, laid.early c d before, start-old c d before)
     | inr behind ↦
@@ -142,141 +186,203 @@ module _ (lanes more present : List ℕ) (rows : List KeptRow) (heard : Bool) (p
         omega (
           arith,
           start-new c d h behind,
+          ended,
           laid.few,
-          many,
           few,
-          ap
-              (λ k. k * length present) here,
+          add-mul c 1 (width_of n),
+          ap (λ k. k * width_of n) here,
         )
   ]
 
-  added-few : length (lanes ++ more) ≤ length (rows ++ added-row ∷ []) * length present
+  added-few : length longer ≤ length (rows ++ added-row ∷ []) * width_of n
   added-few = omega (
     arith,
     laid.few,
-    many,
     few,
-    ap (λ k. k * length present)
-        (length_push rows added-row),
-    add-mul (length rows) 1 (length present),
+    ap (λ k. k * width_of n) (length_push rows added-row),
+    add-mul (length rows) 1 (width_of n),
   )
 
-  pub row-laid : Shows (lanes ++ more) (rows ++ added-row ∷ []) false present (length present)
-      (map (row_of (length present) lanes) rows ++ new_row place sends present ∷ [])
+  pub row-laid : Shows longer (rows ++ added-row ∷ []) false starts present n
+      (map (row_of n lanes) rows ++ new_row place sends present ∷ [])
   row-laid = record {
     laid = record {
       some = laid.some;
+      count = count;
       among = added-among;
       ordered = added-ordered;
       early = added-early;
       few = added-few;
+      held = held;
       last = λ same. ends;
     };
-    shows = map-append (row_of (length present) (lanes ++ more)) rows (added-row ∷ [])
-        ∙ ap (λ (xs : List Row). xs ++ row_of (length present) (lanes ++ more) added-row ∷ [])
-        (rows-more (length present) lanes more rows laid.among)
-        ∙ ap (λ (r : Row). map (row_of (length present) lanes) rows ++ r ∷ []) row-added;
+    shows = map-append (row_of n longer) rows (added-row ∷ [])
+        ∙ ap (λ (xs : List Row). xs ++ row_of n longer added-row ∷ []) (sym
+        (rows-same n (length lanes) lanes longer rows laid.among
+        (λ c h. (laid.among c no_kept h).told) alike))
+        ∙ ap (λ (vector : List ℕ). map (row_of n lanes) rows ++ new_row place sends vector ∷ [])
+        ends.vector;
   }
 
 -- ---- back to a row
 
-module _ (lanes present : List ℕ) (rows : List KeptRow) (heard : Bool) (c : ℕ) (row : KeptRow)
-    (laid : AreLaid lanes rows heard present) (within : c < length rows)
+module _ (lanes starts present : List ℕ) (rows : List KeptRow) (heard : Bool) (c : ℕ)
+    (row : KeptRow) (laid : AreLaid lanes rows heard starts present) (within : c < length rows)
     (is : row ≡ get_or rows c row) where
+  abbrev w : ℕ
+  w = length present
+
+  abbrev back-starts : List ℕ
+  back-starts = starts_at w lanes row.start
+
   abbrev back-vector : List ℕ
-  back-vector = take (length present) (drop row.start lanes)
+  back-vector = vector_behind w lanes row.start
 
   abbrev back-lanes : List ℕ
-  back-lanes = take (row.start + length present) lanes
+  back-lanes = take (row.start + parts_of w) lanes
 
-  pub back-within : row.start + length present ≤ length lanes
-  back-within = omega (arith, laid.among c row within, ap (λ (r : KeptRow). r.start) is)
+  pub back-is-among : IsAmong w lanes row.start
+  back-is-among =
+      subst (IsAmong w lanes) (ap (λ (r : KeptRow). r.start) (sym is)) (laid.among c row within)
 
-  pub back-wide : length back-vector ≡ length present
-  back-wide = length-take-le (length present) (drop row.start lanes)
-      (omega (arith, back-within, length-drop row.start lanes))
+  pub back-within : row.start + parts_of w ≤ length lanes
+  back-within = back-is-among.told
 
-  back-many : length back-lanes ≡ row.start + length present
-  back-many = length-take-le (row.start + length present) lanes back-within
+  pub back-wide : length back-vector ≡ w
+  back-wide = length-parted w back-starts lanes
 
-  back-count : length (take (c + 1) rows) ≡ c + 1
-  back-count = length-take-le (c + 1) rows (omega (arith, within))
+  -- the parts of the vector begin among the lanes
+  pub back-parts : ArePartsAmong w back-starts (length lanes)
+  back-parts = record {
+    enough = omega (
+      arith,
+      back-within,
+      length-take (parts_of w) (drop row.start lanes),
+      length-drop row.start lanes,
+    );
+    within = λ p h. omega (arith, back-is-among.before p h, back-within);
+  }
+
+  pub back-count : length back-starts ≡ parts_of w
+  back-count = omega (
+    arith,
+    back-within,
+    length-take (parts_of w) (drop row.start lanes),
+    length-drop row.start lanes,
+  )
+
+  back-many : length back-lanes ≡ row.start + parts_of w
+  back-many = length-take-le (row.start + parts_of w) lanes back-within
+
+  back-alike : BeginAlike (row.start + parts_of w) lanes back-lanes
+  back-alike i h = sym (get_or-take (row.start + parts_of w) lanes i 0 h)
+
+  back-rows : length (take (c + 1) rows) ≡ c + 1
+  back-rows = length-take-le (c + 1) rows (omega (arith, within))
 
   back-start : (k : ℕ) (d : KeptRow) → k < length (take (c + 1) rows)
       → (get_or (take (c + 1) rows) k d).start ≡ (get_or rows k d).start
   back-start k d h =
-      ap (λ (r : KeptRow). r.start) (get_or-take (c + 1) rows k d (omega (arith, h, back-count)))
+      ap (λ (r : KeptRow). r.start) (get_or-take (c + 1) rows k d (omega (arith, h, back-rows)))
 
   back-before : (k : ℕ) (d : KeptRow) → k < length (take (c + 1) rows)
       → (get_or rows k d).start ≤ row.start
   back-before k d h = omega (
     arith,
-    laid.ordered k c d (omega (arith, h, back-count)) within,
+    laid.ordered k c d (omega (arith, h, back-rows)) within,
     ap
         (λ (r : KeptRow). r.start) (get_or_default rows c d row within ∙ sym is),
   )
 
-  back-among : AreAmong (length present) (length back-lanes) (take (c + 1) rows)
-  back-among k d h = omega (arith, back-start k d h, back-before k d h, back-many)
+  -- the kept rows are among the lanes that are left, as they were among all
+  back-kept : (k : ℕ) (d : KeptRow) → k < length (take (c + 1) rows)
+      → IsAmong w lanes (get_or (take (c + 1) rows) k d).start
+  back-kept k d h = subst (IsAmong w lanes) (sym (back-start k d h))
+      (laid.among k d (omega (arith, h, back-rows, within)))
 
-  pub back-laid : Shows back-lanes (take (c + 1) rows) false back-vector (length present)
-      (take (c + 1) (map (row_of (length present) lanes) rows))
+  back-told : (k : ℕ) (d : KeptRow) → k < length (take (c + 1) rows)
+      → (get_or (take (c + 1) rows) k d).start + parts_of w ≤ row.start + parts_of w
+  back-told k d h = omega (arith, back-start k d h, back-before k d h)
+
+  back-among : AreAmong w back-lanes (take (c + 1) rows)
+  back-among k d h =
+      among-same w (get_or (take (c + 1) rows) k d).start (row.start + parts_of w) lanes back-lanes
+      (back-told k d h) back-alike (back-kept k d h) (omega (arith, back-many))
+
+  back-last : EndWith back-lanes back-vector
+  back-last =
+      let at : length back-lanes - parts_of (length back-vector) ≡ row.start = omega
+      (arith, back-many, ap parts_of back-wide) in
+      record {
+        among = rw (at, back-wide) (among-same w row.start (row.start + parts_of w) lanes
+            back-lanes (omega arith) back-alike back-is-among (omega (arith, back-many)));
+        vector = rw (at, back-wide) (sym (vector-same w row.start (row.start + parts_of w) lanes
+            back-lanes (omega arith) back-alike back-is-among));
+      }
+
+  back-held : AreHeld back-lanes back-starts back-vector
+  back-held p h there =
+      let below : p < w = omega (arith, h, back-wide) in
+      let place : place_in_parts back-starts p < row.start = back-is-among.before p below in (
+        omega (arith, place, back-many),
+        sym (back-alike (place_in_parts back-starts p) (omega (arith, place)))
+            ∙ sym (lane-parted w back-starts lanes p 0 below),
+      )
+
+  pub back-laid : Shows back-lanes (take (c + 1) rows) false back-starts back-vector w
+      (take (c + 1) (map (row_of w lanes) rows))
   back-laid = record {
     laid = record {
       some = omega (arith, laid.some, back-wide);
-      among = λ k d h. omega (arith, back-among k d h, back-wide);
+      count = back-count ∙ ap parts_of (sym back-wide);
+      among = subst (λ m. AreAmong m back-lanes (take (c + 1) rows)) (sym back-wide) back-among;
       ordered = λ k j d below h. omega (
         arith,
         laid.ordered k j d below (omega (
           arith,
           h,
-          back-count,
+          back-rows,
           within,
         )),
         back-start k d (omega (arith, below, h)),
         back-start j d h,
       );
-      early = λ k d h. omega (
-        arith,
-        laid.early k d
-            (omega (arith, h, back-count, within)),
-        back-start k d h,
-        ap (λ n. k * n) back-wide,
-      );
-      few = omega (
-        arith,
-        back-many,
-        laid.early c row within,
-        ap (λ (r : KeptRow). r.start) is,
-        ap
-            (λ n. length (take (c + 1) rows) * n) back-wide,
-        ap
-            (λ k. k * length present) back-count,
-        add-mul c 1 (length present),
-      );
-      last = λ same. ap (λ k. drop k back-lanes)
-          (omega (arith, back-many, back-wide)) ∙ drop-take row.start (length present) lanes;
+      early = λ k d h. subst
+          (λ m. (get_or (take (c + 1) rows) k d).start + parts_of m ≤ (k + 1) * width_of m)
+          (sym back-wide)
+          (omega (arith, laid.early k d (omega (arith, h, back-rows, within)), back-start k d h));
+      few = subst (λ m. length back-lanes ≤ length (take (c + 1) rows) * width_of m)
+          (sym back-wide) (omega (
+            arith,
+            back-many,
+            laid.early c row within,
+            ap (λ (r : KeptRow). r.start) is,
+            ap (λ k. k * width_of w) back-rows,
+          ));
+      held = back-held;
+      last = λ same. back-last;
     };
-    shows = sym (rows-more (length present) back-lanes (drop (row.start + length present) lanes)
-        (take (c + 1) rows) back-among)
-        ∙ ap (λ (xs : List ℕ). map (row_of (length present) xs) (take (c + 1) rows))
-        (take-append-drop (row.start + length present) lanes)
-        ∙ sym (take-map (row_of (length present) lanes) (c + 1) rows);
+    shows = sym (rows-same w (row.start + parts_of w) lanes back-lanes (take (c + 1) rows)
+        (λ k d h. back-kept k d h) (λ k h. back-told k no_kept h) back-alike)
+        ∙ sym (take-map (row_of w lanes) (c + 1) rows);
   }
 
 -- ---- other places, or damage, in the same rows
 
 module _ (old new : List KeptRow) (count : length new ≡ length old)
     (start_same : (k : ℕ) (d : KeptRow) → (get_or new k d).start ≡ (get_or old k d).start) where
-  pub laid-same : (lanes : List ℕ) (heard : Bool) (present : List ℕ)
-      → AreLaid lanes old heard present → AreLaid lanes new heard present
-  laid-same lanes heard present laid = record {
+  pub laid-same : (lanes : List ℕ) (heard : Bool) (starts present : List ℕ)
+      → AreLaid lanes old heard starts present → AreLaid lanes new heard starts present
+  laid-same lanes heard starts present laid = record {
     some = laid.some;
-    among = λ c d h. omega (arith, start_same c d, laid.among c d (omega (arith, h, count)));
+    count = laid.count;
+    among = λ c d h. subst (IsAmong (length present) lanes) (sym (start_same c d))
+        (laid.among c d (omega (arith, h, count)));
     ordered = λ k c d below h. omega
         (arith, start_same k d, start_same c d, laid.ordered k c d below (omega (arith, h, count)));
     early = λ c d h. omega (arith, start_same c d, laid.early c d (omega (arith, h, count)));
-    few = omega (arith, laid.few, ap (λ k. k * length present) count);
+    few = omega (arith, laid.few, ap (λ k. k * width_of (length present)) count);
+    held = laid.held;
     last = laid.last;
   }
 
@@ -318,7 +424,7 @@ placed-shown tape old new n lanes placed =
       damaged_same = seen-each (λ (r : Row). r.damaged) show old new placed.count
           (λ k h. placed.damaged_same k no_kept);
       reach_same = seen-each (λ (r : Row). r.reach) show old new placed.count
-          (λ k h. ap (λ start. take n (drop start lanes)) (placed.start_same k no_kept));
+          (λ k h. ap (vector_behind n lanes) (placed.start_same k no_kept));
     }
 
 -- what rows in step say of the kept ones
@@ -353,3 +459,9 @@ module _ (rows : List KeptRow) (c : ℕ) (row : KeptRow) (within : c < length ro
     | inr apart ↦ ap (λ (r : KeptRow). r.start)
         (get_or-set_other rows c k (record row { damaged = true }) d apart)
   ]
+
+-- how many lanes there are at most, before a row more
+pub few-lanes : (rows lanes n : ℕ) → rows ≤ MOST_EVENTS → n ≤ MOST_PROCESSES
+    → lanes ≤ rows * width_of n → lanes + width_of n < NOT_LAID
+few-lanes rows lanes n few narrow laid =
+    omega (arith, laid, narrow, mul-le rows (width_of n) MOST_EVENTS 272 few (omega (arith, narrow)))

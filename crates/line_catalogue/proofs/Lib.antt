@@ -12,3 +12,5 @@ pub mod SenderLemmas
 pub mod DamageLemmas
 pub mod LaidLemmas
 pub mod KnownLemmas
+pub mod LayLemmas
+pub mod FirstRows

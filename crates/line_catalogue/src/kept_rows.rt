@@ -3,10 +3,11 @@ ghost use Rattle.std.specs.Prelude.{◌≡◌, ◌<◌, ◌≤◌, ◌↔◌, []
 ghost use Rattle.line_catalogue.specs.Laid.{AreAmong, row_of};
 
 use line_names::MOST_PROCESSES;
-use line_vectors::ReachRef;
+use line_vectors::{ReachRef, parts_of};
 use std::marker::Model;
 
-/// What is kept of a check in sixteen bytes: its vector stands after `start` other lanes.
+/// What is kept of a check in sixteen bytes: behind `start` lanes it is told where the parts of its
+/// vector begin.
 #[derive(Clone, Copy)]
 pub(crate) struct KeptRow {
     pub(crate) place: u32,
@@ -46,14 +47,14 @@ impl<'a> Model for Rows<'a> {
     ghost view = { λ r. map (row_of r.n r.lanes.now) r.rows.now };
 
     ghost invariant = { λ r.
-        (r.n ≤ MOST_PROCESSES) × AreAmong r.n (length r.lanes.now) r.rows.now };
+        (r.n ≤ MOST_PROCESSES) × AreAmong r.n r.lanes.now r.rows.now };
 }
 
 impl<'a> Rows<'a> {
     /// The rows that are kept so, their vectors of `n` lanes among these.
     pub(crate) fn of(rows: &'a [KeptRow], lanes: &'a [u32], n: usize) -> Rows<'a>
         requires few { n ≤ MOST_PROCESSES }
-        requires among { AreAmong n (length lanes.now) rows.now }
+        requires among { AreAmong n lanes.now rows.now }
         ensures { result ≡ map (row_of n lanes.now) rows.now }
     {
         Rows { rows, lanes, n }
@@ -82,11 +83,12 @@ impl<'a> Rows<'a> {
         let lanes = self.lanes;
         let row = rows[check];
         let start = row.start as usize;
+        let starts = &lanes[start..start + parts_of(self.n)];
         Row {
             place: row.place,
             sends: row.sends,
             damaged: row.damaged,
-            reach: ReachRef::of(&lanes[start..start + self.n]),
+            reach: ReachRef::in_parts(starts, lanes, self.n),
         }
     }
 }

@@ -1,13 +1,16 @@
 //! What is known of the checks of one process, and of where it stands.
-ghost use Rattle.std.specs.Prelude.{◌≡◌, ◌<◌, ◌≤◌, ◌+◌, ◌-◌, ℕ, Bool, false, List, [], ◌∷◌};
-ghost use Rattle.std.specs.Prelude.{◌++◌, if◌then◌else◌, length, map, replicate, vec_len};
+ghost use Rattle.std.specs.Prelude.{◌≡◌, ◌≢◌, ◌<◌, ◌≤◌, ◌+◌, ◌-◌, ◌*◌, ℕ, Bool, false, List, []};
+ghost use Rattle.std.specs.Prelude.{◌∷◌, ◌++◌, length, map, min, replicate, slice_index, take};
+ghost use Rattle.std.specs.Prelude.{vec_len};
 ghost use Rattle.std.specs.Prelude.{vec_capacity, IfOk, IsOk, OnOk};
 ghost use Rattle.line_names.specs.declared.choices.Choice.TheVariants.{Check as AtCheck};
 ghost use Rattle.line_tape.specs.Event.{checks, sends, NamesBelow};
 ghost use Rattle.line_tape.specs.Shown.{event_of_ref};
+ghost use Rattle.line_vectors.specs.Parts.{parts_of};
 ghost use Rattle.line_vectors.specs.Reach.{nearest};
 ghost use Rattle.line_vectors.specs.Vectors.{lanes_with_message};
-ghost use Rattle.line_catalogue.specs.Laid.{AreLaid, EndWith, HaveRowRoom, row_of};
+ghost use Rattle.line_catalogue.specs.Laid.{AreHeld, AreLaid, EndWith, HaveRowRoom, row_of};
+ghost use Rattle.line_catalogue.specs.Laid.{width_of};
 ghost use Rattle.line_catalogue.specs.Rows.{AreInStep, WithPlaces, vector_after_event, new_row};
 ghost use Rattle.line_catalogue.specs.Rows.{row_added};
 ghost use Rattle.line_catalogue.specs.Rows.{rows_kept, vector_at, with_damage, with_row};
@@ -15,7 +18,7 @@ ghost use Rattle.line_catalogue.specs.Rows.{rows_kept, vector_at, with_damage, w
 use crate::kept_rows::{KeptRow, Rows};
 use line_names::{Choice, MOST_PROCESSES, MsgName};
 use line_tape::{Event, EventRef, MOST_EVENTS, Tape};
-use line_vectors::{LAST_NUMBER, Reach, ReachRef};
+use line_vectors::{LAST_NUMBER, PART, Reach, ReachRef, part_of, parts_of};
 use std::alloc::{AllocError, Global};
 use std::marker::Model;
 
@@ -40,7 +43,7 @@ pub struct ProcessRows {
 impl Model for ProcessRows {
     ghost use Rattle.std.specs.Prelude.{◌-◌, map, length, vec_len, vec_capacity};
     ghost use Rattle.line_catalogue.specs.Kept.{RowsView};
-    ghost use Rattle.line_catalogue.specs.Laid.{AreLaid, HaveRowRoom, row_of};
+    ghost use Rattle.line_catalogue.specs.Laid.{AreLaid, HaveRowRoom, row_of, width_of};
 
     ghost Value = { RowsView };
 
@@ -58,28 +61,58 @@ impl Model for ProcessRows {
 /// In place of where a part begins: it was changed since it was laid.
 const NOT_LAID: u32 = u32::MAX;
 
-/// Puts the parts that were changed since the last vector after the others, and then where the
-/// parts of the present vector begin, in room that was made for it.
-fn lay(lanes: &mut Vec<u32>, present: &Reach, starts: &mut Vec<u32>)
+/// Lays a part of the vector of where a process stands after the other lanes, unless it was not
+/// changed since it was laid, in room that was made for it.
+fn lay_part(lanes: &mut Vec<u32>, present: &Reach, starts: &mut Vec<u32>, k: usize)
+    requires count { length starts.old.items ≡ parts_of (length present.now) }
+    requires part { k < length starts.old.items }
+    requires held { AreHeld lanes.old.items starts.old.items present.now }
+    requires few { vec_len lanes.old < NOT_LAID }
+    requires room { vec_len lanes.old + min PART (length present.now - k * PART)
+        ≤ vec_capacity lanes.old }
+    ensures kept { take (vec_len lanes.old) lanes.new.items ≡ lanes.old.items }
+    ensures longer { vec_len lanes.old ≤ vec_len lanes.new }
+    ensures few { vec_len lanes.new
+        ≤ vec_len lanes.old + min PART (length present.now - k * PART) }
+    ensures held { AreHeld lanes.new.items starts.new.items present.now }
+    ensures count { length starts.new.items ≡ length starts.old.items }
+    ensures laid { slice_index starts.new.items k ≢ NOT_LAID }
+    ensures others { (j : ℕ) → j ≢ k
+        → slice_index starts.new.items j ≡ slice_index starts.old.items j }
+    ensures capacity { vec_capacity lanes.old ≤ vec_capacity lanes.new }
+{
+    if starts[k] == NOT_LAID {
+        let start = lanes.len() as u32;
+        lanes
+            .extend_from_slice(part_of(present.lanes(), k))
+            .unwrap();
+        starts[k] = start;
+    }
+}
+
+/// Puts the vector of where a process stands after the others, unless it is the last of them
+/// already, in room that was made for it: the parts that were changed, and then where all parts
+/// begin.
+fn lay(lanes: &mut Vec<u32>, present: &Reach, starts: &mut Vec<u32>, heard: bool)
     requires count { length starts.old.items ≡ parts_of (length present.now) }
     requires held { AreHeld lanes.old.items starts.old.items present.now }
+    requires last { heard ≡ false → EndWith lanes.old.items present.now }
     requires few { vec_len lanes.old + width_of (length present.now) < NOT_LAID }
     requires room { vec_len lanes.old + width_of (length present.now) ≤ vec_capacity lanes.old }
     ensures kept { take (vec_len lanes.old) lanes.new.items ≡ lanes.old.items }
+    ensures longer { vec_len lanes.old ≤ vec_len lanes.new }
     ensures held { AreHeld lanes.new.items starts.new.items present.now }
-    ensures last { EndWith lanes.new.items starts.new.items }
-    ensures laid { AreAllLaid starts.new.items (vec_len lanes.new) }
+    ensures last { EndWith lanes.new.items present.now }
     ensures count { length starts.new.items ≡ parts_of (length present.now) }
     ensures len { vec_len lanes.new ≤ vec_len lanes.old + width_of (length present.now) }
     ensures capacity { vec_capacity lanes.old ≤ vec_capacity lanes.new }
 {
-    for k in 0..starts.len() {
-        if starts[k] == NOT_LAID {
-            starts[k] = lanes.len() as u32;
-            lanes.extend_from_slice(part_of(present.lanes(), k)).unwrap();
+    if heard {
+        for k in 0..starts.len() {
+            lay_part(lanes, present, starts, k);
         }
+        lanes.extend_from_slice(starts.as_slice()).unwrap();
     }
-    lanes.extend_from_slice(starts.as_slice()).unwrap();
 }
 
 /// Lets go of the rows and vectors after a choice, whose vector becomes that of where the process
@@ -88,10 +121,11 @@ fn go_back(
     rows: &mut Vec<KeptRow>,
     lanes: &mut Vec<u32>,
     present: &mut Reach,
+    starts: &mut Vec<u32>,
     heard: &mut bool,
     choice: Choice,
 )
-    requires laid { AreLaid lanes.old.items rows.old.items heard.old present.old }
+    requires laid { AreLaid lanes.old.items rows.old.items heard.old starts.old.items present.old }
     requires there { (c : ℕ) → choice ≡ AtCheck c → c < vec_len rows.old }
     ensures rows { map (row_of (length present.old) lanes.new.items) rows.new.items
         ≡ rows_kept choice (map (row_of (length present.old) lanes.old.items) rows.old.items) }
@@ -99,7 +133,7 @@ fn go_back(
         ≡ vector_at (map (row_of (length present.old) lanes.old.items) rows.old.items)
         present.old choice }
     ensures lanes { length present.new ≡ length present.old }
-    ensures laid { AreLaid lanes.new.items rows.new.items heard.new present.new }
+    ensures laid { AreLaid lanes.new.items rows.new.items heard.new starts.new.items present.new }
     ensures room { vec_capacity rows.old - vec_len rows.old
         ≤ vec_capacity rows.new - vec_len rows.new }
     ensures vector { vec_capacity lanes.old - vec_len lanes.old
@@ -107,10 +141,11 @@ fn go_back(
 {
     match choice {
         Choice::Check(c) => {
-            let n = present.n();
             let start = rows[c as usize].start as usize;
-            let end = start + n;
-            present.set_to_lent(&ReachRef::of(&lanes[start..end]));
+            let end = start + starts.len();
+            let told = &lanes[start..end];
+            present.set_to_lent(&ReachRef::in_parts(told, lanes, present.n()));
+            starts.as_mut_slice().copy_from_slice(told);
             rows.truncate(c as usize + 1);
             lanes.truncate(end);
             *heard = false;
@@ -127,8 +162,9 @@ fn place_rows(rows: &mut Vec<KeptRow>, tape: &Tape)
         → AreInStep tape.now.events (map (row_of n lanes) rows.old.items)
         → WithPlaces tape.now.events (map (row_of n lanes) rows.old.items)
         (map (row_of n lanes) rows.new.items) }
-    ensures laid { (lanes : List ℕ) (heard : Bool) (present : List ℕ)
-        → AreLaid lanes rows.old.items heard present → AreLaid lanes rows.new.items heard present }
+    ensures laid { (lanes : List ℕ) (heard : Bool) (starts present : List ℕ)
+        → AreLaid lanes rows.old.items heard starts present
+        → AreLaid lanes rows.new.items heard starts present }
     ensures room { (vec_capacity rows.new ≡ vec_capacity rows.old)
         × (vec_len rows.new ≡ vec_len rows.old) }
 {
@@ -141,29 +177,29 @@ fn place_rows(rows: &mut Vec<KeptRow>, tape: &Tape)
     }
 }
 
-/// For how many further rows with a vector each of `n` lanes there is room.
-fn count_room(rows: &Vec<KeptRow>, lanes: &Vec<u32>, n: usize) -> u32
-    requires { 0 < n }
+/// For how many further rows with a vector each of that width there is room.
+fn count_room(rows: &Vec<KeptRow>, lanes: &Vec<u32>, width: usize) -> u32
+    requires { 0 < width }
     ensures room { HaveRowRoom result (vec_capacity rows.now - vec_len rows.now)
-        (vec_capacity lanes.now - vec_len lanes.now) n }
+        (vec_capacity lanes.now - vec_len lanes.now) width }
     ensures most { (k : ℕ) → k < 4294967296
         → HaveRowRoom k (vec_capacity rows.now - vec_len rows.now)
-        (vec_capacity lanes.now - vec_len lanes.now) n → k ≤ result }
+        (vec_capacity lanes.now - vec_len lanes.now) width → k ≤ result }
 {
-    let vectors = (lanes.capacity() - lanes.len()) / n;
+    let vectors = (lanes.capacity() - lanes.len()) / width;
     let places = rows.capacity() - rows.len();
     places.min(vectors).min(u32::MAX as usize) as u32
 }
 
-/// The only row of a process that has done nothing.
-fn first_rows(alloc: Global) -> Result<Vec<KeptRow>, AllocError>
+/// The only row of a process that has done nothing, its vector told of behind so many lanes.
+fn first_rows(alloc: Global, start: u32) -> Result<Vec<KeptRow>, AllocError>
     ensures { IfOk result (λ rows.
-        rows.items ≡ record { place = 0; sends = 0; start = 0; damaged = false } ∷ []) }
+        rows.items ≡ record { place = 0; sends = 0; start = start; damaged = false } ∷ []) }
 {
     let row = KeptRow {
         place: 0,
         sends: 0,
-        start: 0,
+        start,
         damaged: false,
     };
     vec![in alloc; row; 1]
@@ -177,13 +213,18 @@ impl ProcessRows {
         ensures rows { IfOk result (λ process. process.rows ≡ new_row 0 0 (replicate n 0) ∷ []) }
         ensures present { IfOk result (λ process. process.present ≡ replicate n 0) }
     {
-        let rows = first_rows(alloc)?;
+        // All parts of the first vector are the same one, of lanes that are 0.
+        let first = PART.min(n as usize);
+        let parts = parts_of(n as usize);
+        let rows = first_rows(alloc, first as u32)?;
+        let lanes = vec![in alloc; 0; first + parts]?;
+        let starts = vec![in alloc; 0; parts]?;
         let present = Reach::new(alloc, n)?;
-        let lanes = Vec::from_slice(alloc, present.lanes())?;
         Ok(ProcessRows {
             rows,
             lanes,
             present,
+            starts,
             heard: false,
             room: 0,
         })
@@ -229,10 +270,10 @@ impl ProcessRows {
         ensures succeeds { k ≤ self.old.room → IsOk result }
         ensures room { self.old.room ≤ self.new.room }
     {
-        let n = self.present.n();
-        self.lanes.reserve(k as usize * n)?;
+        let width = self.present.n() + self.starts.len();
+        self.lanes.reserve(k as usize * width)?;
         self.rows.reserve(k as usize)?;
-        self.room = count_room(&self.rows, &self.lanes, n);
+        self.room = count_room(&self.rows, &self.lanes, width);
         Ok(())
     }
 
@@ -250,6 +291,7 @@ impl ProcessRows {
             number: message.number.min(LAST_NUMBER - 1),
         };
         self.present.note(&name);
+        self.starts[message.from.get() as usize / PART] = NOT_LAID;
         self.heard = true;
     }
 
@@ -263,15 +305,15 @@ impl ProcessRows {
         ensures present { self.new.present ≡ self.old.present }
         ensures room { self.old.room ≤ self.new.room + 1 }
     {
-        add_row(
-            &mut self.rows,
-            &mut self.lanes,
-            &self.present,
-            self.heard,
+        let parts = parts_of(self.present.n());
+        lay(&mut self.lanes, &self.present, &mut self.starts, self.heard);
+        self.heard = false;
+        self.rows.push_reserved(KeptRow {
             place,
             sends,
-        );
-        self.heard = false;
+            start: (self.lanes.len() - parts) as u32,
+            damaged: false,
+        });
         self.room -= 1;
     }
 
@@ -343,6 +385,7 @@ impl ProcessRows {
             &mut self.rows,
             &mut self.lanes,
             &mut self.present,
+            &mut self.starts,
             &mut self.heard,
             choice,
         );
