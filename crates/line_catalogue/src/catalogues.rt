@@ -1,8 +1,10 @@
 //! A history that agrees, with its marks of damage and its bars.
 ghost use Rattle.std.specs.Prelude.{◌≡◌, ◌≢◌, ◌<◌, ◌≤◌, ◌+◌, ◌↔◌, ◌⊎◌, ℕ, [], List, length};
-ghost use Rattle.std.specs.Prelude.{replicate, IfOk, IsOk, OnOk, OnErr, IsErrOf, IsTrue, IfSome};
+ghost use Rattle.std.specs.Prelude.{replicate, slice_index, IfOk, IsOk, OnOk, OnErr, IsErrOf, IsTrue};
+ghost use Rattle.std.specs.Prelude.{IfSome};
 ghost use Rattle.std.specs.Option.{SomeIff};
 ghost use Rattle.line_names.specs.declared.choices.Choice.{Choice};
+ghost use Rattle.line_names.specs.declared.choices.Choice.TheVariants.{Now};
 ghost use Rattle.line_names.specs.Order.{IsNoLater};
 ghost use Rattle.line_tape.specs.Chain.{latest_check, next_lower};
 ghost use Rattle.line_tape.specs.Event.{checks, HasLongState, NamesBelow};
@@ -218,6 +220,16 @@ impl Catalogue {
     {
         let _n = self.ledger.history().n();
         self.rows.reach(p, choice)
+    }
+
+    /// One more than the greatest number that a process has received from another one, at any time,
+    /// or 0: the lane of `p` in the vector of where `q` stands. It costs nothing.
+    pub fn heard(&self, q: ProcId, p: ProcId) -> u32
+        requires hearer { q < length self.now.processes }
+        requires process { p < length self.now.processes }
+        ensures { result ≡ slice_index (reach_before self.now.processes q Now) p }
+    {
+        self.rows.present(q).lane(p)
     }
 
     /// Makes room for so many further events of a process: its next `k` additions take no memory.

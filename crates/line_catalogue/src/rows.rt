@@ -238,6 +238,13 @@ impl ProcessRows {
         Rows::of(self.rows.as_slice(), self.lanes.as_slice(), n)
     }
 
+    /// The vector of where the process stands.
+    pub fn present(&self) -> &Reach
+        ensures { result.now ≡ self.now.present }
+    {
+        &self.present
+    }
+
     /// The vector of a choice.
     pub fn reach(&self, choice: Choice) -> ReachRef<'_>
         requires { (c : ℕ) → choice ≡ AtCheck c → c < length self.now.rows }

@@ -18,7 +18,7 @@ use crate::kept_rows::Rows;
 use crate::rows::ProcessRows;
 use line_names::{Choice, Line, MOST_PROCESSES, ProcId};
 use line_tape::{Event, EventRef, History, MOST_EVENTS, Marks, Tape};
-use line_vectors::ReachRef;
+use line_vectors::{Reach, ReachRef};
 use std::alloc::{AllocError, Global};
 use std::marker::Model;
 
@@ -121,6 +121,14 @@ impl RowTable {
         ensures { result ≡ rows_at self.now.rows p }
     {
         self.table[p.get() as usize].rows()
+    }
+
+    /// The vector of where a process stands.
+    pub fn present(&self, p: ProcId) -> &Reach
+        requires { p < length self.now.presents }
+        ensures { result.now ≡ present_at self.now.presents p }
+    {
+        self.table[p.get() as usize].present()
     }
 
     /// The vector of a choice of a process.

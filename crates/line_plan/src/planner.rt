@@ -73,7 +73,7 @@ fn mark_hearers(catalogue: &Catalogue, p: ProcId, count: u32, dirty: &mut Dirty)
     for q in 0..n {
         let hearer = ProcId::try_new(q, n).unwrap();
         let was = dirty.has(hearer);
-        let lane = catalogue.reach(hearer, Choice::Now).lane(p);
+        let lane = catalogue.heard(hearer, p);
         dirty.set(hearer, was || lane > count);
     }
 }

@@ -95,7 +95,7 @@ impl Reach {
         requires { p < length self.now }
         ensures { result ≡ slice_index self.now p }
     {
-        self.as_ref().lane(p)
+        self.lanes[p.get() as usize]
     }
 
     /// The lanes in the order of the processes.

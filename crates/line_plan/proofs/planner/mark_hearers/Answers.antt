@@ -10,7 +10,7 @@ use Rattle.line_tape.specs.declared.events.Event.{Event}
 use Rattle.line_tape.specs.Front.{front}
 use Rattle.line_tape.specs.History.{Process, tape_at}
 use Rattle.line_vectors.specs.Reach.{reach_from, reach_of, reach_before}
-use Rattle.line_vectors.proofs.ReachLemmas.{length-reach, reach-at}
+use Rattle.line_vectors.proofs.ReachLemmas.{reach-at}
 use Rattle.line_plan.proofs.planner.mark_hearers.Goals as goal
 use Rattle.line_plan.proofs.planner.mark_hearers.Goals.{then-was, else-was}
 
@@ -19,16 +19,6 @@ low-lane count k h = elim (cases_lt count k) [
   | inl over ↦ absurd (false≢true (sym h ∙ lt-ltb count k over))
   | inr low ↦ low
 ]
-
-pub lane-lane-requires : goal.lane-lane-requires
-lane-lane-requires c =
-    let history : List Process = c.args.catalogue.now.processes in
-    omega (
-      arith,
-      c.requires.process,
-      ap (λ (xs : List ℕ). length xs) c.reach.ensures.value,
-      length-reach (length history) (front (tape_at history c.unwrap-hearer.result) Now),
-    )
 
 pub loop-q-preserved : goal.loop-q-preserved
 loop-q-preserved c =
@@ -39,17 +29,17 @@ loop-q-preserved c =
     let at : c.unwrap-hearer.result ≡ q = (rw c.unwrap-hearer.ensures at c.try_new.ensures).1 in
     let events : List Event = tape_at history q in
     let whole : front events Now ≡ events = take_all (length events) events (omega arith) in
-    let lanes : c.reach.result ≡ reach_of n events = c.reach.ensures.value ∙ ap
-    (λ k. reach_before history k Now) at ∙ ap (reach_of n) whole in
-    let lane : c.lane-lane.result ≡ get_or (reach_of n events) p 0 = c.lane-lane.ensures ∙ ap
+    let lanes : reach_before history c.unwrap-hearer.result Now ≡ reach_of n events =
+    ap (λ k. reach_before history k Now) at ∙ ap (reach_of n) whole in
+    let lane : c.heard-lane.result ≡ get_or (reach_of n events) p 0 = c.heard-lane.ensures ∙ ap
     (λ (xs : List ℕ). get_or xs p 0) lanes in
-    let unheard : c.lane-lane.result ≤ c.args.count → reach_from events p ≤ c.args.count = λ low.
+    let unheard : c.heard-lane.result ≤ c.args.count → reach_from events p ≤ c.args.count = λ low.
     omega (arith, low, lane, reach-at n events p 0 c.requires.process, c.requires.few) in
     let unset : c.if-was.set ≡ false → (c.has-was.result ≡ false)
-    × (c.lane-lane.result ≤ c.args.count) = λ none. elim c.if-was.branch [
+    × (c.heard-lane.result ≤ c.args.count) = λ none. elim c.if-was.branch [
       | then-was w ↦ absurd (false≢true (sym none ∙ w.set-is ∙ w.if-was.true))
       | else-was w ↦
-          (w.if-was.false, low-lane c.args.count c.lane-lane.result (sym w.set-is ∙ none))
+          (w.if-was.false, low-lane c.args.count c.heard-lane.result (sym w.set-is ∙ none))
     ] in
     let here : (k : ℕ) → k ≡ q → is_member c.set.new.self k ≡ false → c.if-was.set ≡ false = λ k e
     none. sym c.set.ensures.member ∙ ap (is_member c.set.new.self) (at ∙ sym e) ∙ none in
