@@ -19,13 +19,13 @@ use Rattle.line_names.specs.declared.choices.Choice.TheVariants.{Check as AtChec
 use Rattle.line_tape.specs.declared.events.Event.{Event}
 use Rattle.line_tape.specs.Front.{place}
 use Rattle.line_vectors.specs.declared.parts.TheConstants.{PART}
-use Rattle.line_vectors.specs.Parts.{ArePartsAmong, parts_of}
+use Rattle.line_vectors.specs.Parts.{ArePartsAmong, part_count}
 use Rattle.line_vectors.specs.Parts.{place_in_parts}
 use Rattle.line_vectors.proofs.PartLemmas.{lane-parted, length-parted}
 use Rattle.line_catalogue.specs.declared.kept_rows.KeptRow.{KeptRow}
 use Rattle.line_catalogue.specs.declared.kept_rows.Row.{Row}
 use Rattle.line_catalogue.specs.Laid.{AreAmong, AreHeld, AreLaid, EndWith, IsAmong, row_of}
-use Rattle.line_catalogue.specs.Laid.{starts_at, vector_behind, width_of}
+use Rattle.line_catalogue.specs.Laid.{starts_at, vector_after, width_of}
 use Rattle.line_catalogue.specs.Rows.{AreInStep, WithPlaces, new_row, no_row, with_damage}
 
 -- a row of nothing, for a check that there isn't
@@ -42,10 +42,10 @@ BeginAlike m one other = (i : ℕ) → i < m → get_or one i 0 ≡ get_or other
 pub start-in : (n start : ℕ) (lanes : List ℕ) (p : ℕ) → p < n
     → get_or (starts_at n lanes start) (p / PART) 0 ≡ get_or lanes (start + p / PART) 0
 start-in n start lanes p within =
-    get_or-take (parts_of n) (drop start lanes) (p / PART) 0 (omega (arith, within))
+    get_or-take (part_count n) (drop start lanes) (p / PART) 0 (omega (arith, within))
     ∙ get_or-drop start lanes (p / PART) 0
 
-module _ (n start m : ℕ) (one other : List ℕ) (told : start + parts_of n ≤ m)
+module _ (n start m : ℕ) (one other : List ℕ) (told : start + part_count n ≤ m)
     (alike : BeginAlike m one other) where
   place-same : (p : ℕ) → p < n
       → place_in_parts (starts_at n one start) p ≡ place_in_parts (starts_at n other start) p
@@ -61,11 +61,11 @@ module _ (n start m : ℕ) (one other : List ℕ) (told : start + parts_of n ≤
   }
 
   -- and is the same vector there
-  pub vector-same : IsAmong n one start → vector_behind n one start ≡ vector_behind n other start
+  pub vector-same : IsAmong n one start → vector_after n one start ≡ vector_after n other start
   vector-same among =
       let starts : List ℕ = starts_at n one start in
       let others : List ℕ = starts_at n other start in
-      ext_get_or 0 (vector_behind n one start) (vector_behind n other start)
+      ext_get_or 0 (vector_after n one start) (vector_after n other start)
       (length-parted n starts one ∙ sym (length-parted n others other)) (λ p h.
       let within : p < n = omega (arith, h, length-parted n starts one) in
       lane-parted n starts one p 0 within
@@ -75,7 +75,7 @@ module _ (n start m : ℕ) (one other : List ℕ) (told : start + parts_of n ≤
 
 -- a row whose vector is the same
 row-same : (n : ℕ) (one other : List ℕ) (row : KeptRow)
-    → vector_behind n one row.start ≡ vector_behind n other row.start
+    → vector_after n one row.start ≡ vector_after n other row.start
     → row_of n one row ≡ row_of n other row
 row-same n one other row same =
     ap (λ (vector : List ℕ). record {
@@ -96,7 +96,7 @@ map-same f g rows same = ext_get_or no_row (map f rows) (map g rows)
 
 -- rows are shown the same among lanes that begin alike
 rows-same : (n m : ℕ) (one other : List ℕ) (rows : List KeptRow) → AreAmong n one rows
-    → ((c : ℕ) → c < length rows → (get_or rows c no_kept).start + parts_of n ≤ m)
+    → ((c : ℕ) → c < length rows → (get_or rows c no_kept).start + part_count n ≤ m)
     → BeginAlike m one other → map (row_of n one) rows ≡ map (row_of n other) rows
 rows-same n m one other rows among told alike =
     map-same (row_of n one) (row_of n other) rows (λ c h.
@@ -117,7 +117,7 @@ module _ (lanes longer old_starts starts present : List ℕ) (rows : List KeptRo
     (kept : take (length lanes) longer ≡ lanes) (more : length lanes ≤ length longer)
     (few : length longer ≤ length lanes + width_of (length present))
     (ends : EndWith longer present) (held : AreHeld longer starts present)
-    (count : length starts ≡ parts_of (length present)) where
+    (count : length starts ≡ part_count (length present)) where
   abbrev n : ℕ
   n = length present
 
@@ -125,12 +125,13 @@ module _ (lanes longer old_starts starts present : List ℕ) (rows : List KeptRo
   added-row = record {
     place = place;
     sends = sends;
-    start = length longer - parts_of n;
+    start = length longer - part_count n;
     damaged = false;
   }
 
   alike : BeginAlike (length lanes) lanes longer
-  alike i h = sym (ap (λ (xs : List ℕ). get_or xs i 0) kept) ∙ get_or-take (length lanes) longer i 0 h
+  alike i h =
+      sym (ap (λ (xs : List ℕ). get_or xs i 0) kept) ∙ get_or-take (length lanes) longer i 0 h
 
   -- the start of an old row, and of the new one
   start-old : (c : ℕ) (d : KeptRow) → c < length rows
@@ -138,7 +139,7 @@ module _ (lanes longer old_starts starts present : List ℕ) (rows : List KeptRo
   start-old c d h = ap (λ (r : KeptRow). r.start) (get_or_append_left rows (added-row ∷ []) d c h)
 
   start-new : (c : ℕ) (d : KeptRow) → c < length (rows ++ added-row ∷ []) → length rows ≤ c
-      → (get_or (rows ++ added-row ∷ []) c d).start ≡ length longer - parts_of n
+      → (get_or (rows ++ added-row ∷ []) c d).start ≡ length longer - part_count n
   start-new c d h behind = ap (λ (r : KeptRow). r.start)
       (get_or_push rows added-row d c (omega (arith, behind, h, length_push rows added-row)))
 
@@ -174,11 +175,11 @@ module _ (lanes longer old_starts starts present : List ℕ) (rows : List KeptRo
   ]
 
   -- where the new row's vector is told of, the lanes end
-  ended : length longer - parts_of n + parts_of n ≡ length longer
+  ended : length longer - part_count n + part_count n ≡ length longer
   ended = omega (arith, ends.among.told)
 
   added-early : (c : ℕ) (d : KeptRow) → c < length (rows ++ added-row ∷ [])
-      → (get_or (rows ++ added-row ∷ []) c d).start + parts_of n ≤ (c + 1) * width_of n
+      → (get_or (rows ++ added-row ∷ []) c d).start + part_count n ≤ (c + 1) * width_of n
   added-early c d h = elim (cases_lt c (length rows)) [
     | inl before ↦ omega (arith, laid.early c d before, start-old c d before)
     | inr behind ↦
@@ -236,16 +237,16 @@ module _ (lanes starts present : List ℕ) (rows : List KeptRow) (heard : Bool) 
   back-starts = starts_at w lanes row.start
 
   abbrev back-vector : List ℕ
-  back-vector = vector_behind w lanes row.start
+  back-vector = vector_after w lanes row.start
 
   abbrev back-lanes : List ℕ
-  back-lanes = take (row.start + parts_of w) lanes
+  back-lanes = take (row.start + part_count w) lanes
 
   pub back-is-among : IsAmong w lanes row.start
   back-is-among =
       subst (IsAmong w lanes) (ap (λ (r : KeptRow). r.start) (sym is)) (laid.among c row within)
 
-  pub back-within : row.start + parts_of w ≤ length lanes
+  pub back-within : row.start + part_count w ≤ length lanes
   back-within = back-is-among.told
 
   pub back-wide : length back-vector ≡ w
@@ -257,25 +258,25 @@ module _ (lanes starts present : List ℕ) (rows : List KeptRow) (heard : Bool) 
     enough = omega (
       arith,
       back-within,
-      length-take (parts_of w) (drop row.start lanes),
+      length-take (part_count w) (drop row.start lanes),
       length-drop row.start lanes,
     );
     within = λ p h. omega (arith, back-is-among.before p h, back-within);
   }
 
-  pub back-count : length back-starts ≡ parts_of w
+  pub back-count : length back-starts ≡ part_count w
   back-count = omega (
     arith,
     back-within,
-    length-take (parts_of w) (drop row.start lanes),
+    length-take (part_count w) (drop row.start lanes),
     length-drop row.start lanes,
   )
 
-  back-many : length back-lanes ≡ row.start + parts_of w
-  back-many = length-take-le (row.start + parts_of w) lanes back-within
+  back-many : length back-lanes ≡ row.start + part_count w
+  back-many = length-take-le (row.start + part_count w) lanes back-within
 
-  back-alike : BeginAlike (row.start + parts_of w) lanes back-lanes
-  back-alike i h = sym (get_or-take (row.start + parts_of w) lanes i 0 h)
+  back-alike : BeginAlike (row.start + part_count w) lanes back-lanes
+  back-alike i h = sym (get_or-take (row.start + part_count w) lanes i 0 h)
 
   back-rows : length (take (c + 1) rows) ≡ c + 1
   back-rows = length-take-le (c + 1) rows (omega (arith, within))
@@ -301,22 +302,23 @@ module _ (lanes starts present : List ℕ) (rows : List KeptRow) (heard : Bool) 
       (laid.among k d (omega (arith, h, back-rows, within)))
 
   back-told : (k : ℕ) (d : KeptRow) → k < length (take (c + 1) rows)
-      → (get_or (take (c + 1) rows) k d).start + parts_of w ≤ row.start + parts_of w
+      → (get_or (take (c + 1) rows) k d).start + part_count w ≤ row.start + part_count w
   back-told k d h = omega (arith, back-start k d h, back-before k d h)
 
   back-among : AreAmong w back-lanes (take (c + 1) rows)
   back-among k d h =
-      among-same w (get_or (take (c + 1) rows) k d).start (row.start + parts_of w) lanes back-lanes
+      among-same w (get_or (take (c + 1) rows) k d).start
+      (row.start + part_count w) lanes back-lanes
       (back-told k d h) back-alike (back-kept k d h) (omega (arith, back-many))
 
   back-last : EndWith back-lanes back-vector
   back-last =
-      let at : length back-lanes - parts_of (length back-vector) ≡ row.start = omega
-      (arith, back-many, ap parts_of back-wide) in
+      let at : length back-lanes - part_count (length back-vector) ≡ row.start = omega
+      (arith, back-many, ap part_count back-wide) in
       record {
-        among = rw (at, back-wide) (among-same w row.start (row.start + parts_of w) lanes
+        among = rw (at, back-wide) (among-same w row.start (row.start + part_count w) lanes
             back-lanes (omega arith) back-alike back-is-among (omega (arith, back-many)));
-        vector = rw (at, back-wide) (sym (vector-same w row.start (row.start + parts_of w) lanes
+        vector = rw (at, back-wide) (sym (vector-same w row.start (row.start + part_count w) lanes
             back-lanes (omega arith) back-alike back-is-among));
       }
 
@@ -334,7 +336,7 @@ module _ (lanes starts present : List ℕ) (rows : List KeptRow) (heard : Bool) 
   back-laid = record {
     laid = record {
       some = omega (arith, laid.some, back-wide);
-      count = back-count ∙ ap parts_of (sym back-wide);
+      count = back-count ∙ ap part_count (sym back-wide);
       among = subst (λ m. AreAmong m back-lanes (take (c + 1) rows)) (sym back-wide) back-among;
       ordered = λ k j d below h. omega (
         arith,
@@ -348,7 +350,7 @@ module _ (lanes starts present : List ℕ) (rows : List KeptRow) (heard : Bool) 
         back-start j d h,
       );
       early = λ k d h. subst
-          (λ m. (get_or (take (c + 1) rows) k d).start + parts_of m ≤ (k + 1) * width_of m)
+          (λ m. (get_or (take (c + 1) rows) k d).start + part_count m ≤ (k + 1) * width_of m)
           (sym back-wide)
           (omega (arith, laid.early k d (omega (arith, h, back-rows, within)), back-start k d h));
       few = subst (λ m. length back-lanes ≤ length (take (c + 1) rows) * width_of m)
@@ -362,7 +364,7 @@ module _ (lanes starts present : List ℕ) (rows : List KeptRow) (heard : Bool) 
       held = back-held;
       last = λ same. back-last;
     };
-    shows = sym (rows-same w (row.start + parts_of w) lanes back-lanes (take (c + 1) rows)
+    shows = sym (rows-same w (row.start + part_count w) lanes back-lanes (take (c + 1) rows)
         (λ k d h. back-kept k d h) (λ k h. back-told k no_kept h) back-alike)
         ∙ sym (take-map (row_of w lanes) (c + 1) rows);
   }
@@ -424,7 +426,7 @@ placed-shown tape old new n lanes placed =
       damaged_same = seen-each (λ (r : Row). r.damaged) show old new placed.count
           (λ k h. placed.damaged_same k no_kept);
       reach_same = seen-each (λ (r : Row). r.reach) show old new placed.count
-          (λ k h. ap (vector_behind n lanes) (placed.start_same k no_kept));
+          (λ k h. ap (vector_after n lanes) (placed.start_same k no_kept));
     }
 
 -- what rows in step say of the kept ones
@@ -464,4 +466,10 @@ module _ (rows : List KeptRow) (c : ℕ) (row : KeptRow) (within : c < length ro
 pub few-lanes : (rows lanes n : ℕ) → rows ≤ MOST_EVENTS → n ≤ MOST_PROCESSES
     → lanes ≤ rows * width_of n → lanes + width_of n < NOT_LAID
 few-lanes rows lanes n few narrow laid =
-    omega (arith, laid, narrow, mul-le rows (width_of n) MOST_EVENTS 272 few (omega (arith, narrow)))
+    omega (
+      arith,
+      laid,
+      narrow,
+      mul-le rows (width_of n) MOST_EVENTS 272 few
+          (omega (arith, narrow)),
+    )

@@ -3,7 +3,7 @@
 use Rattle.std.specs.Prelude.{◌≡◌, ◌≢◌, ℕ, ◌+◌, ◌-◌, ◌*◌, ◌/◌, ◌<◌, ◌≤◌, Bool, false, List, drop}
 use Rattle.std.specs.Prelude.{length, slice_index, slice_index_or, take}
 use Rattle.line_vectors.specs.declared.parts.TheConstants.{PART}
-use Rattle.line_vectors.specs.Parts.{lane_in_parts, parted, parts_of, place_in_parts}
+use Rattle.line_vectors.specs.Parts.{lane_in_parts, parted, part_count, place_in_parts}
 use Rattle.line_catalogue.specs.declared.kept_rows.KeptRow.{KeptRow}
 use Rattle.line_catalogue.specs.declared.kept_rows.Row.{Row}
 use Rattle.line_catalogue.specs.declared.rows.TheConstants.{NOT_LAID}
@@ -11,15 +11,15 @@ use Rattle.line_catalogue.specs.declared.rows.TheConstants.{NOT_LAID}
 -- what n lanes take among the lanes of all, if no part is shared: the lanes, and where each part
 -- begins
 abbrev pub width_of : ℕ → ℕ
-width_of n = n + parts_of n
+width_of n = n + part_count n
 
--- where the parts of a vector of n lanes begin, as it is told behind so many lanes
+-- where the parts of a vector of n lanes begin, as it is told after so many lanes
 abbrev pub starts_at : ℕ → List ℕ → ℕ → List ℕ
-starts_at n lanes start = take (parts_of n) (drop start lanes)
+starts_at n lanes start = take (part_count n) (drop start lanes)
 
--- the vector of n lanes of which that is told behind so many lanes
-abbrev pub vector_behind : ℕ → List ℕ → ℕ → List ℕ
-vector_behind n lanes start = parted n (starts_at n lanes start) lanes
+-- the vector of n lanes of which that is told after so many lanes
+abbrev pub vector_after : ℕ → List ℕ → ℕ → List ℕ
+vector_after n lanes start = parted n (starts_at n lanes start) lanes
 
 -- the row that is kept so, with its vector of n lanes from among these
 abbrev pub row_of : ℕ → List ℕ → KeptRow → Row
@@ -28,12 +28,12 @@ row_of n lanes row =
       place = row.place;
       sends = row.sends;
       damaged = row.damaged;
-      reach = vector_behind n lanes row.start;
+      reach = vector_after n lanes row.start;
     }
 
--- where the parts of n lanes begin is told behind so many lanes, and the parts stand before that
+-- where the parts of n lanes begin is told after so many lanes, and the parts stand before that
 pub record IsAmong (n : ℕ) (lanes : List ℕ) (start : ℕ) : Type 0 where
-  pub told : start + parts_of n ≤ length lanes
+  pub told : start + part_count n ≤ length lanes
   pub before : (p : ℕ) → p < n → place_in_parts (starts_at n lanes start) p < start
 
 -- the vector of each row, of n lanes, stands among these lanes
@@ -43,9 +43,9 @@ AreAmong n lanes rows =
 
 -- the last vector among the lanes is this one
 pub record EndWith (lanes present : List ℕ) : Type 0 where
-  pub among : IsAmong (length present) lanes (length lanes - parts_of (length present))
+  pub among : IsAmong (length present) lanes (length lanes - part_count (length present))
   pub vector :
-      vector_behind (length present) lanes (length lanes - parts_of (length present)) ≡ present
+      vector_after (length present) lanes (length lanes - part_count (length present)) ≡ present
 
 -- the parts that were not changed since they were laid begin there among the lanes
 abbrev pub AreHeld : List ℕ → List ℕ → List ℕ → Type 0
@@ -59,12 +59,12 @@ AreHeld lanes starts present =
 pub record AreLaid (lanes : List ℕ) (rows : List KeptRow) (heard : Bool) (starts : List ℕ)
     (present : List ℕ) : Type 0 where
   pub some : 0 < length present
-  pub count : length starts ≡ parts_of (length present)
+  pub count : length starts ≡ part_count (length present)
   pub among : AreAmong (length present) lanes rows
   pub ordered : (k c : ℕ) (d : KeptRow) → k ≤ c → c < length rows
       → (slice_index_or rows k d).start ≤ (slice_index_or rows c d).start
   pub early : (c : ℕ) (d : KeptRow) → c < length rows
-      → (slice_index_or rows c d).start + parts_of (length present)
+      → (slice_index_or rows c d).start + part_count (length present)
       ≤ (c + 1) * width_of (length present)
   pub few : length lanes ≤ length rows * width_of (length present)
   pub held : AreHeld lanes starts present

@@ -3,10 +3,10 @@ ghost use Rattle.std.specs.Prelude.{◌≡◌, ◌<◌, ◌≤◌, ◌↔◌, []
 ghost use Rattle.line_catalogue.specs.Laid.{AreAmong, row_of};
 
 use line_names::MOST_PROCESSES;
-use line_vectors::{ReachRef, parts_of};
+use line_vectors::{ReachRef, part_count};
 use std::marker::Model;
 
-/// What is kept of a check in sixteen bytes: behind `start` lanes it is told where the parts of its
+/// What is kept of a check in sixteen bytes: after `start` lanes it is told where the parts of its
 /// vector begin.
 #[derive(Clone, Copy)]
 pub(crate) struct KeptRow {
@@ -83,7 +83,7 @@ impl<'a> Rows<'a> {
         let lanes = self.lanes;
         let row = rows[check];
         let start = row.start as usize;
-        let starts = &lanes[start..start + parts_of(self.n)];
+        let starts = &lanes[start..start + part_count(self.n)];
         Row {
             place: row.place,
             sends: row.sends,

@@ -6,7 +6,7 @@ ghost use Rattle.std.specs.Prelude.{vec_capacity, IfOk, IsOk, OnOk};
 ghost use Rattle.line_names.specs.declared.choices.Choice.TheVariants.{Check as AtCheck};
 ghost use Rattle.line_tape.specs.Event.{checks, sends, NamesBelow};
 ghost use Rattle.line_tape.specs.Shown.{event_of_ref};
-ghost use Rattle.line_vectors.specs.Parts.{parts_of};
+ghost use Rattle.line_vectors.specs.Parts.{part_count};
 ghost use Rattle.line_vectors.specs.Reach.{nearest};
 ghost use Rattle.line_vectors.specs.Vectors.{lanes_with_message};
 ghost use Rattle.line_catalogue.specs.Laid.{AreHeld, AreLaid, EndWith, HaveRowRoom, row_of};
@@ -18,7 +18,7 @@ ghost use Rattle.line_catalogue.specs.Rows.{rows_kept, vector_at, with_damage, w
 use crate::kept_rows::{KeptRow, Rows};
 use line_names::{Choice, MOST_PROCESSES, MsgName};
 use line_tape::{Event, EventRef, MOST_EVENTS, Tape};
-use line_vectors::{LAST_NUMBER, PART, Reach, ReachRef, part_of, parts_of};
+use line_vectors::{LAST_NUMBER, PART, Reach, ReachRef, part_count, part_of_lanes};
 use std::alloc::{AllocError, Global};
 use std::marker::Model;
 
@@ -64,7 +64,7 @@ const NOT_LAID: u32 = u32::MAX;
 /// Lays a part of the vector of where a process stands after the other lanes, unless it was not
 /// changed since it was laid, in room that was made for it.
 fn lay_part(lanes: &mut Vec<u32>, present: &Reach, starts: &mut Vec<u32>, k: usize)
-    requires count { length starts.old.items ≡ parts_of (length present.now) }
+    requires count { length starts.old.items ≡ part_count (length present.now) }
     requires part { k < length starts.old.items }
     requires held { AreHeld lanes.old.items starts.old.items present.now }
     requires few { vec_len lanes.old < NOT_LAID }
@@ -84,7 +84,7 @@ fn lay_part(lanes: &mut Vec<u32>, present: &Reach, starts: &mut Vec<u32>, k: usi
     if starts[k] == NOT_LAID {
         let start = lanes.len() as u32;
         lanes
-            .extend_from_slice(part_of(present.lanes(), k))
+            .extend_from_slice(part_of_lanes(present.lanes(), k))
             .unwrap();
         starts[k] = start;
     }
@@ -94,7 +94,7 @@ fn lay_part(lanes: &mut Vec<u32>, present: &Reach, starts: &mut Vec<u32>, k: usi
 /// already, in room that was made for it: the parts that were changed, and then where all parts
 /// begin.
 fn lay(lanes: &mut Vec<u32>, present: &Reach, starts: &mut Vec<u32>, heard: bool)
-    requires count { length starts.old.items ≡ parts_of (length present.now) }
+    requires count { length starts.old.items ≡ part_count (length present.now) }
     requires held { AreHeld lanes.old.items starts.old.items present.now }
     requires last { heard ≡ false → EndWith lanes.old.items present.now }
     requires few { vec_len lanes.old + width_of (length present.now) < NOT_LAID }
@@ -103,7 +103,7 @@ fn lay(lanes: &mut Vec<u32>, present: &Reach, starts: &mut Vec<u32>, heard: bool
     ensures longer { vec_len lanes.old ≤ vec_len lanes.new }
     ensures held { AreHeld lanes.new.items starts.new.items present.now }
     ensures last { EndWith lanes.new.items present.now }
-    ensures count { length starts.new.items ≡ parts_of (length present.now) }
+    ensures count { length starts.new.items ≡ part_count (length present.now) }
     ensures len { vec_len lanes.new ≤ vec_len lanes.old + width_of (length present.now) }
     ensures capacity { vec_capacity lanes.old ≤ vec_capacity lanes.new }
 {
@@ -191,7 +191,7 @@ fn count_room(rows: &Vec<KeptRow>, lanes: &Vec<u32>, width: usize) -> u32
     places.min(vectors).min(u32::MAX as usize) as u32
 }
 
-/// The only row of a process that has done nothing, its vector told of behind so many lanes.
+/// The only row of a process that has done nothing, its vector told of after so many lanes.
 fn first_rows(alloc: Global, start: u32) -> Result<Vec<KeptRow>, AllocError>
     ensures { IfOk result (λ rows.
         rows.items ≡ record { place = 0; sends = 0; start = start; damaged = false } ∷ []) }
@@ -215,7 +215,7 @@ impl ProcessRows {
     {
         // All parts of the first vector are the same one, of lanes that are 0.
         let first = PART.min(n as usize);
-        let parts = parts_of(n as usize);
+        let parts = part_count(n as usize);
         let rows = first_rows(alloc, first as u32)?;
         let lanes = vec![in alloc; 0; first + parts]?;
         let starts = vec![in alloc; 0; parts]?;
@@ -312,7 +312,7 @@ impl ProcessRows {
         ensures present { self.new.present ≡ self.old.present }
         ensures room { self.old.room ≤ self.new.room + 1 }
     {
-        let parts = parts_of(self.present.n());
+        let parts = part_count(self.present.n());
         lay(&mut self.lanes, &self.present, &mut self.starts, self.heard);
         self.heard = false;
         self.rows.push_reserved(KeptRow {

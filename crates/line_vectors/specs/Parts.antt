@@ -5,8 +5,8 @@ use Rattle.std.specs.List.{range_with_len}
 use Rattle.line_vectors.specs.declared.parts.TheConstants.{PART}
 
 -- how many parts n lanes have
-abbrev pub parts_of : ℕ → ℕ
-parts_of n = (n + (PART - 1)) / PART
+abbrev pub part_count : ℕ → ℕ
+part_count n = (n + (PART - 1)) / PART
 
 -- where the lane of process p stands, if the parts begin there
 abbrev pub place_in_parts : List ℕ → ℕ → ℕ

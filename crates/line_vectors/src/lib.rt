@@ -27,6 +27,6 @@ pub use laws::{
     kept_vectors_stay, lanes_are_greatest, present_vectors_are_the_choices, receipts_note,
 };
 pub use limits::LAST_NUMBER;
-pub use parts::{PART, part_of, parts_of};
+pub use parts::{PART, part_count, part_of_lanes};
 pub use reaches::{Reach, ReachRef};
 pub use sents::Sent;

@@ -1,6 +1,6 @@
 //! Lists of numbers in parts of sixteen.
 ghost use Rattle.std.specs.Prelude.{◌≡◌, ◌<◌, ◌≤◌, ◌*◌, drop, length, take};
-ghost use Rattle.line_vectors.specs.Parts.{parts_of};
+ghost use Rattle.line_vectors.specs.Parts.{part_count};
 
 use line_names::MOST_PROCESSES;
 
@@ -8,15 +8,15 @@ use line_names::MOST_PROCESSES;
 pub const PART: usize = 16;
 
 /// How many parts so many lanes have.
-pub fn parts_of(n: usize) -> usize
+pub fn part_count(n: usize) -> usize
     requires { n ≤ MOST_PROCESSES }
-    ensures { result ≡ parts_of n }
+    ensures { result ≡ part_count n }
 {
     n.div_ceil(PART)
 }
 
 /// One part of a list of numbers.
-pub fn part_of(numbers: &[u32], k: usize) -> &[u32]
+pub fn part_of_lanes(numbers: &[u32], k: usize) -> &[u32]
     requires { k * PART < length numbers.now }
     ensures { result.now ≡ take PART (drop (k * PART) numbers.now) }
 {

@@ -7,7 +7,7 @@ ghost use Rattle.line_vectors.specs.Vectors.{lanes_with_message, Fits, FitsBefor
 
 use crate::kernels::{count_over, first_over_from, max_into};
 use crate::limits::LAST_NUMBER;
-use crate::parts::{PART, part_of, parts_of};
+use crate::parts::{PART, part_count, part_of_lanes};
 use crate::sents::Sent;
 use line_names::{MOST_PROCESSES, MsgName, ProcId};
 use std::alloc::{AllocError, Global};
@@ -233,10 +233,10 @@ impl<'a> ReachRef<'a> {
         requires none { FitsBefore self.now sent.now from }
         ensures { MatchOption result (Fits self.now sent.now) (IsFirstBeyond self.now sent.now) }
     {
-        for k in from / PART..parts_of(self.n) {
+        for k in from / PART..part_count(self.n) {
             let at = k * PART;
             let known = from.saturating_sub(at);
-            if let Some(i) = first_over_from(self.part(k), part_of(sent.counts(), k), known) {
+            if let Some(i) = first_over_from(self.part(k), part_of_lanes(sent.counts(), k), known) {
                 return Some(ProcId::try_new((at + i) as u32, self.n as u32).unwrap());
             }
         }
@@ -249,8 +249,8 @@ impl<'a> ReachRef<'a> {
         ensures { result ≡ over_count self.now sent.now }
     {
         let mut total = 0;
-        for k in 0..parts_of(self.n) {
-            total += count_over(self.part(k), part_of(sent.counts(), k));
+        for k in 0..part_count(self.n) {
+            total += count_over(self.part(k), part_of_lanes(sent.counts(), k));
         }
         total
     }

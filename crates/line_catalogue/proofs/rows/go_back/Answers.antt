@@ -3,11 +3,11 @@ use Rattle.std.proofs.Common.{◌≡◌, ◌+◌, ◌-◌, ◌<◌, ℕ, false, 
 use Rattle.std.proofs.Common.{◌∙◌, ◌++◌, arith}
 use Rattle.std.proofs.Math.Seq.{take-append_seam}
 use Rattle.line_names.specs.declared.choices.Choice.{Choice}
-use Rattle.line_vectors.specs.Parts.{parted, parts_of}
+use Rattle.line_vectors.specs.Parts.{parted, part_count}
 use Rattle.line_vectors.proofs.PartLemmas.{length-parted}
 use Rattle.line_catalogue.specs.declared.kept_rows.KeptRow.{KeptRow}
 use Rattle.line_catalogue.specs.declared.kept_rows.Row.{Row}
-use Rattle.line_catalogue.specs.Laid.{row_of, starts_at, vector_behind}
+use Rattle.line_catalogue.specs.Laid.{row_of, starts_at, vector_after}
 use Rattle.line_catalogue.specs.Rows.{rows_kept}
 use Rattle.line_catalogue.proofs.LaidLemmas.{Shows, back-count, back-laid}
 use Rattle.line_catalogue.proofs.rows.go_back.Goals as goal
@@ -27,15 +27,15 @@ told : (c : After-truncate-in-Check)
     ≡ starts_at (length c.args.present.now) c.args.lanes.now.items c.index.result.now.start
 told c =
     let start : ℕ = c.index.result.now.start in
-    let wide : start + c.len.result - start ≡ parts_of (length c.args.present.now) = omega
+    let wide : start + c.len.result - start ≡ part_count (length c.args.present.now) = omega
     (arith, c.len.ensures, c.args.starts.now.ok.0, c.requires.laid.count) in
     ap (λ i. take i (drop start c.deref.result.now)) wide ∙ ap
-    (λ (xs : List ℕ). take (parts_of (length c.args.present.now)) (drop start xs))
+    (λ (xs : List ℕ). take (part_count (length c.args.present.now)) (drop start xs))
     c.deref.ensures.value
 
 -- the vector that was taken
 taken : (c : After-truncate-in-Check) → c.set_to_lent.new.self
-    ≡ vector_behind (length c.args.present.now) c.args.lanes.now.items c.index.result.now.start
+    ≡ vector_after (length c.args.present.now) c.args.lanes.now.items c.index.result.now.start
 taken c =
     let lanes : List ℕ = c.args.lanes.now.items in
     let n : ℕ = length c.args.present.now in
@@ -76,7 +76,7 @@ whole c =
     c.args.starts.now.items)) (sym seam) ∙ take-append_seam c.copy_from_slice.new.self
     (drop (length c.copy_from_slice.new.self) c.args.starts.now.items) ∙ copied
     in
-    let ended : row.start + c.len.result ≡ row.start + parts_of (length present) = omega
+    let ended : row.start + c.len.result ≡ row.start + part_count (length present) = omega
     (arith, c.len.ensures, c.args.starts.now.ok.0, c.requires.laid.count) in
     rw (written, taken c, c.truncate-in-Check.ensures.items, c.truncate.ensures.items, ended)
     (back-laid lanes c.args.starts.now.items present rows c.args.heard.now c.in-Check.c row

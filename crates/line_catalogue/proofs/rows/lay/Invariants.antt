@@ -1,6 +1,6 @@
 use Rattle.std.proofs.Common.{◌≡◌, ◌≢◌, ◌+◌, ◌*◌, ◌<◌, ◌≤◌, ℕ, length, get_or, take, vec_capacity}
 use Rattle.line_vectors.specs.declared.parts.TheConstants.{PART}
-use Rattle.line_vectors.specs.Parts.{parts_of}
+use Rattle.line_vectors.specs.Parts.{part_count}
 use Rattle.line_catalogue.specs.declared.rows.TheConstants.{NOT_LAID}
 use Rattle.line_catalogue.specs.Laid.{AreHeld}
 use Rattle.line_catalogue.proofs.rows.lay.Given as goal
@@ -8,7 +8,7 @@ use Rattle.line_catalogue.proofs.rows.lay.Given as goal
 -- the first parts are laid, and what was laid before stands where it did
 abbrev pub invariant-loop-k : goal.invariant-loop-k
 invariant-loop-k l = record {
-  count : length l.starts.items ≡ parts_of (length l.present);
+  count : length l.starts.items ≡ part_count (length l.present);
   ends : l.k-end ≡ length l.starts.items;
   kept : take (length l.fn.lanes.items) l.lanes.items ≡ l.fn.lanes.items;
   longer : length l.fn.lanes.items ≤ length l.lanes.items;

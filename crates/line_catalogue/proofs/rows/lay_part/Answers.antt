@@ -17,8 +17,8 @@ pub unwrap-requires : goal.unwrap-requires
 unwrap-requires c = c.extend_from_slice.ensures.succeeds (omega (
   arith,
   c.requires.room,
-  long c.args.present.now c.lanes.result.now c.part_of.result.now c.args.k
-      (omega (arith, c.requires.part, c.requires.count)) c.lanes.ensures c.part_of.ensures,
+  long c.args.present.now c.lanes.result.now c.part_of_lanes.result.now c.args.k
+      (omega (arith, c.requires.part, c.requires.count)) c.lanes.ensures c.part_of_lanes.ensures,
 ))
 
 pub returns-then-index-clause-few : goal.returns-then-index-clause-few
@@ -26,8 +26,8 @@ returns-then-index-clause-few c = grind (
   arith,
   c.extend_from_slice.ensures.len,
   c.unwrap.ensures,
-  long c.args.present.now c.lanes.result.now c.part_of.result.now c.args.k
-      (omega (arith, c.requires.part, c.requires.count)) c.lanes.ensures c.part_of.ensures,
+  long c.args.present.now c.lanes.result.now c.part_of_lanes.result.now c.args.k
+      (omega (arith, c.requires.part, c.requires.count)) c.lanes.ensures c.part_of_lanes.ensures,
 )
 
 pub returns-then-index-clause-held : goal.returns-then-index-clause-held
@@ -37,7 +37,7 @@ returns-then-index-clause-held c =
     rw (
       c.extend_from_slice.ensures.items,
       c.unwrap.ensures,
-      c.part_of.ensures,
+      c.part_of_lanes.ensures,
       c.lanes.ensures,
       start,
     )

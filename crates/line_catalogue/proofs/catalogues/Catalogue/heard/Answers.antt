@@ -27,7 +27,8 @@ present-requires c = omega (
 -- the vector is that of the whole tape
 vector : (inside outside : List Process) (presents : List (List ℕ)) (q : ℕ) (present : List ℕ)
     → inside ≡ outside → q < length outside
-    → ((k : ℕ) → k < length inside → present_at presents k ≡ reach_of (length inside) (tape_at inside k))
+    → ((k : ℕ) → k < length inside
+    → present_at presents k ≡ reach_of (length inside) (tape_at inside k))
     → present ≡ present_at presents q → present ≡ reach_before outside q Now
 vector inside outside presents q present same within heard is =
     let events : List Event = tape_at inside q in

@@ -3,7 +3,7 @@ use Rattle.std.proofs.Common.{◌≡◌, ◌+◌, ◌-◌, ◌*◌, ◌++◌, �
 use Rattle.std.proofs.Common.{map, take, ap, sym, ◌∙◌, vec_len, arith}
 use Rattle.std.proofs.lemmas.List.{length-map}
 use Rattle.std.proofs.Math.Nat.{add-mul}
-use Rattle.line_vectors.specs.Parts.{parts_of}
+use Rattle.line_vectors.specs.Parts.{part_count}
 use Rattle.line_catalogue.specs.Kept.{RowsView}
 use Rattle.line_catalogue.specs.Laid.{row_of, width_of}
 use Rattle.line_catalogue.specs.Rows.{new_row}
@@ -11,7 +11,8 @@ use Rattle.line_catalogue.proofs.LaidLemmas.{Shows, few-lanes, row-laid}
 use Rattle.line_catalogue.proofs.rows.ProcessRows.add_check.Goals as goal
 
 pub lay-requires-clause-few : goal.lay-requires-clause-few
-lay-requires-clause-few c = few-lanes (length c.self.inside.rows.items) (vec_len c.self.inside.lanes)
+lay-requires-clause-few c =
+    few-lanes (length c.self.inside.rows.items) (vec_len c.self.inside.lanes)
     (length c.self.inside.present) (omega (
       arith,
       c.requires.few,
@@ -44,13 +45,14 @@ whole c =
     let lanes : List ℕ = c.self.inside.lanes.items in
     let longer : List ℕ = c.lay.new.lanes.items in
     let present : List ℕ = c.self.inside.present in
-    let start : c.len.result - c.parts_of-parts.result ≡ length longer - parts_of (length present) =
+    let start : c.len.result - c.part_count-parts.result
+    ≡ length longer - part_count (length present) =
     omega (
       arith,
       c.len.ensures,
       c.lay.new.lanes.ok.0,
-      c.parts_of-parts.ensures,
-      ap parts_of c.n.ensures.value,
+      c.part_count-parts.ensures,
+      ap part_count c.n.ensures.value,
     )
     in
     let kept : take (length lanes) longer ≡ lanes =
@@ -91,5 +93,6 @@ invariant_of-self c = (
 
 pub returns-clause-rows : goal.returns-clause-rows
 returns-clause-rows c =
-    (whole c).shows ∙ ap (λ (v : RowsView). v.rows ++ new_row c.args.place c.args.sends v.present ∷ [])
+    (whole c).shows ∙ ap
+    (λ (v : RowsView). v.rows ++ new_row c.args.place c.args.sends v.present ∷ [])
     c.self.view_is

@@ -19,7 +19,7 @@ whole c =
       c.in_ok-starts.ensures.items_if_clones_equal (λ y same. same),
       c.in_ok-present.ensures,
       c.min-first.ensures,
-      c.parts_of-parts.ensures,
+      c.part_count-parts.ensures,
     )
     (first-shows c.args.n c.requires.some)
 

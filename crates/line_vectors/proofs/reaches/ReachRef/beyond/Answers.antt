@@ -3,13 +3,13 @@ use Rattle.std.proofs.Common.{◌≡◌, ◌*◌, ◌<◌, ℕ, List, length, ta
 use Rattle.std.proofs.Common.{◌∙◌, arith}
 use Rattle.line_vectors.specs.declared.parts.TheConstants.{PART}
 use Rattle.line_vectors.specs.Lanes.{over_count}
-use Rattle.line_vectors.specs.Parts.{parts_of}
+use Rattle.line_vectors.specs.Parts.{part_count}
 use Rattle.line_vectors.proofs.PartLemmas.{few-over, part-counted, part-length, parted-width}
 use Rattle.line_vectors.proofs.reaches.ReachRef.beyond.Goals as goal
 
 pub loop-k-init : goal.loop-k-init
 loop-k-init c = record {
-  parts = c.parts_of-k-end.ensures ∙ ap parts_of
+  parts = c.part_count-k-end.ensures ∙ ap part_count
       (parted-width c.self.inside.n c.self.inside.starts.now c.self.inside.lanes.now
       c.args.self.now c.self.view_is);
   few = omega arith;
@@ -24,7 +24,7 @@ count_over-total-requires c =
       arith,
       c.requires,
       ap (λ (xs : List ℕ). length xs) c.part.ensures,
-      ap (λ (xs : List ℕ). length xs) (c.part_of.ensures ∙ ap
+      ap (λ (xs : List ℕ). length xs) (c.part_of_lanes.ensures ∙ ap
           (λ (xs : List ℕ). take PART (drop (c.loop-k.k * PART) xs)) c.counts.ensures),
       part-length c.args.self.now c.loop-k.k before,
       part-length c.args.sent.now c.loop-k.k (omega (arith, before, c.requires)),
@@ -51,8 +51,8 @@ overflow_add-total c =
       c.self.invariant.0,
       parted-width c.self.inside.n c.self.inside.starts.now c.self.inside.lanes.now
           c.args.self.now c.self.view_is,
-      counted c.args.self.now c.args.sent.now c.part.result.now c.part_of.result.now k
-          c.count_over-total.result c.part.ensures (c.part_of.ensures ∙ ap
+      counted c.args.self.now c.args.sent.now c.part.result.now c.part_of_lanes.result.now k
+          c.count_over-total.result c.part.ensures (c.part_of_lanes.ensures ∙ ap
           (λ (xs : List ℕ). take PART (drop (k * PART) xs)) c.counts.ensures)
           c.count_over-total.ensures,
       few-over c.args.self.now c.args.sent.now k,
@@ -63,8 +63,9 @@ loop-k-preserved c =
     let k : ℕ = c.loop-k.k in
     let here : c.count_over-total.result ≡ over_count (take PART (drop (k * PART) c.args.self.now))
     (take PART (drop (k * PART) c.args.sent.now)) = counted c.args.self.now c.args.sent.now
-    c.part.result.now c.part_of.result.now k c.count_over-total.result c.part.ensures
-    (c.part_of.ensures ∙ ap (λ (xs : List ℕ). take PART (drop (k * PART) xs)) c.counts.ensures)
+    c.part.result.now c.part_of_lanes.result.now k c.count_over-total.result c.part.ensures
+    (c.part_of_lanes.ensures ∙ ap
+    (λ (xs : List ℕ). take PART (drop (k * PART) xs)) c.counts.ensures)
     c.count_over-total.ensures
     in
     record {

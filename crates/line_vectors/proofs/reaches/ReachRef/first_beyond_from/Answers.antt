@@ -3,7 +3,7 @@ use Rattle.std.proofs.Common.{◌≡◌, ◌+◌, ◌*◌, ◌<◌, ℕ, List, l
 use Rattle.std.proofs.Common.{ap, subst, ◌∙◌, arith}
 use Rattle.line_vectors.specs.declared.parts.TheConstants.{PART}
 use Rattle.line_vectors.specs.Lanes.{HasNoneOver, IsFirstOver}
-use Rattle.line_vectors.specs.Parts.{parts_of}
+use Rattle.line_vectors.specs.Parts.{part_count}
 use Rattle.line_vectors.specs.Vectors.{FitsBefore, IsFirstBeyond}
 use Rattle.line_vectors.proofs.PartLemmas.{part-at, part-beyond, part-fits, part-length}
 use Rattle.line_vectors.proofs.PartLemmas.{parted-width}
@@ -12,7 +12,7 @@ use Rattle.line_vectors.proofs.reaches.ReachRef.first_beyond_from.Goals as goal
 pub loop-k-init : goal.loop-k-init
 loop-k-init c = record {
   from = omega arith;
-  parts = c.parts_of-k-end.ensures ∙ ap parts_of
+  parts = c.part_count-k-end.ensures ∙ ap part_count
       (parted-width c.self.inside.n c.self.inside.starts.now c.self.inside.lanes.now
       c.args.self.now c.self.view_is);
   none = λ p h. c.requires.none p (omega (arith, h));
@@ -26,7 +26,7 @@ first_over_from-requires-clause-lanes c =
       arith,
       c.requires.lanes,
       ap (λ (xs : List ℕ). length xs) c.part.ensures,
-      ap (λ (xs : List ℕ). length xs) (c.part_of.ensures ∙ ap
+      ap (λ (xs : List ℕ). length xs) (c.part_of_lanes.ensures ∙ ap
           (λ (xs : List ℕ). take PART (drop (c.loop-k.k * PART) xs)) c.counts.ensures),
       part-length c.args.self.now c.loop-k.k before,
       part-length c.args.sent.now c.loop-k.k (omega (arith, before, c.requires.lanes)),
@@ -52,8 +52,8 @@ first_over_from-requires-clause-none c = λ i h.
     (arith, h, c.saturating_sub-known.ensures, c.loop-k.invariant.from) in
     let self_at : get_or c.part.result.now i 0 ≡ get_or c.args.self.now (k * PART + i) 0 =
     ap (λ (xs : List ℕ). get_or xs i 0) c.part.ensures ∙ part-at c.args.self.now k i small in
-    let sent_at : get_or c.part_of.result.now i 0 ≡ get_or c.args.sent.now (k * PART + i) 0 =
-    ap (λ (xs : List ℕ). get_or xs i 0) c.part_of.ensures ∙ ap
+    let sent_at : get_or c.part_of_lanes.result.now i 0 ≡ get_or c.args.sent.now (k * PART + i) 0 =
+    ap (λ (xs : List ℕ). get_or xs i 0) c.part_of_lanes.ensures ∙ ap
     (λ (xs : List ℕ). get_or (take PART (drop (k * PART) xs)) i 0) c.counts.ensures ∙ part-at
     c.args.sent.now k i small in
     omega (
@@ -107,8 +107,9 @@ returns-in-Some c =
     let before : k * PART < length c.args.self.now = omega
     (arith, c.loop-k-test.true, c.loop-k.invariant.parts) in
     let there : IsFirstBeyond c.args.self.now c.args.sent.now (k * PART + c.in-Some.i) = found
-    c.args.self.now c.args.sent.now c.part.result.now c.part_of.result.now k c.in-Some.i before
-    c.loop-k.invariant.none c.part.ensures (c.part_of.ensures ∙ ap
+    c.args.self.now c.args.sent.now c.part.result.now c.part_of_lanes.result.now k c.in-Some.i
+    before
+    c.loop-k.invariant.none c.part.ensures (c.part_of_lanes.ensures ∙ ap
     (λ (xs : List ℕ). take PART (drop (k * PART) xs)) c.counts.ensures) c.in-Some.ensures
     in
     subst (λ p. IsFirstBeyond c.args.self.now c.args.sent.now p)
@@ -125,6 +126,6 @@ loop-k-preserved c =
       none = part-fits c.args.self.now c.args.sent.now k before c.loop-k.invariant.none
           (subst (λ (xs : List ℕ). HasNoneOver xs (take PART (drop (k * PART) c.args.sent.now)))
           c.part.ensures (subst (λ (xs : List ℕ). HasNoneOver c.part.result.now xs)
-          (c.part_of.ensures ∙ ap (λ (xs : List ℕ). take PART (drop (k * PART) xs))
+          (c.part_of_lanes.ensures ∙ ap (λ (xs : List ℕ). take PART (drop (k * PART) xs))
           c.counts.ensures) c.in_default.ensures));
     }

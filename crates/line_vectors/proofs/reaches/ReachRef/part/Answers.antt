@@ -61,5 +61,6 @@ returns c =
     (arith, c.requires, parted-width n starts lanes c.args.self.now c.self.view_is) in
     let width : start + c.min-len.result - start ≡ min PART (n - k * PART) =
     omega (arith, c.min-len.ensures) in
-    ap (λ i. take i (drop start lanes)) width ∙ part-lanes n starts lanes c.self.invariant.1 k before
+    ap (λ i. take i (drop start lanes)) width ∙ part-lanes n starts lanes c.self.invariant.1 k
+    before
     ∙ ap (λ (xs : List ℕ). take PART (drop (k * PART) xs)) c.self.view_is
