@@ -19,7 +19,7 @@ use Rattle.line_cuts.proofs.ConsistentCuts.{floor_at}
 use Rattle.line_cuts.proofs.LatestCuts.{length_history}
 use Rattle.line_cuts.proofs.StepCuts.{cut_process, process_cut, same_history}
 use Rattle.line_cuts.proofs.SurvivalCuts.{bar_cut}
-use Rattle.line_live.proofs.ListLemmas.{same_list}
+use Rattle.line_cuts.proofs.SameLists.{same_list}
 use Rattle.line_live.proofs.RestartCuts.{none_at}
 use Rattle.line_cuts.specs.Floors.{first_floor}
 use Rattle.line_cuts.proofs.MarkedCuts.{damaged_left, length_damaged}

@@ -19,7 +19,7 @@ use Rattle.line_tape.specs.Views.{MarksView, bar_at, damaged_at, with_bar, with_
 use Rattle.line_cuts.specs.Cuts.{Floor, floor_check, lost_checks, cut_bar, cut_history, cut_marks}
 use Rattle.line_cuts.proofs.ConsistentCuts.{tape_cut}
 use Rattle.line_cuts.proofs.SurvivalCuts.{bar_cut, checks_left, damaged_cut, marked_left}
-use Rattle.line_live.proofs.ListLemmas.{same_list}
+use Rattle.line_cuts.proofs.SameLists.{same_list}
 
 -- orders of lessened numbers, where one of them is not less
 lt_shift : (a b n : ℕ) → n ≤ a → ltb (a - n) (b - n) ≡ ltb a b

@@ -26,7 +26,7 @@ use Rattle.line_cuts.proofs.FloorStays.{floor_restarted}
 use Rattle.line_cuts.proofs.LatestCuts.{length_whole, whole_at}
 use Rattle.line_cuts.proofs.StepCuts.{length_restarted}
 use Rattle.line_cuts.proofs.SurvivalCuts.{bar_cut, damaged_cut, undamaged}
-use Rattle.line_live.proofs.ListLemmas.{same_list}
+use Rattle.line_cuts.proofs.SameLists.{same_list}
 use Rattle.line_live.proofs.RestartCuts.{damage_kept, none_at, any_kept}
 
 module _ (floor : Floor) (history : List Process) (marks : MarksView) (is : IsFloor history floor)

@@ -15,7 +15,8 @@ use Rattle.line_collect.specs.declared.reports.Report.{Report}
 use Rattle.line_collect.specs.declared.reports.Report.TheVariants as reports
 use Rattle.line_collect.specs.declared.tellings.Told.{Told}
 use Rattle.line_collect.specs.Answers.{DoesAsReported, TakesReport, told_record}
-use Rattle.line_collect.specs.Lives.{AreReceiptsNumbered, IsNumbered, LiveCollectionView, keeping}
+use Rattle.line_collect.specs.Lives.{AreReceiptsNumbered, LiveCollectionView, keeping}
+use Rattle.line_cuts.specs.Numbers.{IsNumbered}
 use Rattle.line_collect.specs.Lives.{nothing_live}
 use Rattle.line_fields.specs.Records.{Record}
 use Rattle.line_cuts.specs.Cuts.{Floor, cut_history, cut_name, floor_check, lost_sends, whole_floor}

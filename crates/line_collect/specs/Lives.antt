@@ -1,6 +1,6 @@
 -- Reports collected by one who lets go what is never needed again, and answers in the names and
 -- numbers of the whole.
-use Rattle.std.specs.Prelude.{◌≡◌, ◌≢◌, ℕ, ◌+◌, ◌-◌, ◌<◌, ◌^◌, nat_le, nat_lt, not, ◌||◌}
+use Rattle.std.specs.Prelude.{◌≡◌, ◌≢◌, ℕ, ◌+◌, ◌-◌, nat_le, nat_lt, not, ◌||◌}
 use Rattle.std.specs.Prelude.{Bool, true, List, [], ◌∷◌, length, Contains, Option, Some, None}
 use Rattle.std.specs.Prelude.{Result, Ok, Err}
 use Rattle.line_names.specs.declared.messages.MsgName.{MsgName}
@@ -12,13 +12,14 @@ use Rattle.line_tape.specs.Views.{with_bar, with_mark}
 use Rattle.line_names.specs.declared.choices.Choice.{Choice}
 use Rattle.line_text.specs.Answers.{IsEverybody}
 use Rattle.line_cuts.specs.Cuts.{Floor, FloorSurvives, IsFloor, cut_history, cut_marks, cut_name}
-use Rattle.line_cuts.specs.Cuts.{floor_check, is_left, lost_checks, lost_sends, whole_floor}
+use Rattle.line_cuts.specs.Cuts.{floor_check, is_left, lost_checks, whole_floor}
 use Rattle.line_cuts.specs.Cuts.{whole_name}
 use Rattle.line_live.specs.CutMachines.{whole_plan}
 use Rattle.line_cuts.specs.Floors.{floor_of_line}
 use Rattle.line_cuts.specs.Floors.{first_floor, HasNumbers}
 use Rattle.line_live.specs.Lives.{IsSpentAt}
 use Rattle.line_cuts.specs.Marks.{AreSameMarks}
+use Rattle.line_cuts.specs.Numbers.{IsNumbered}
 use Rattle.line_live.specs.declared.refusals.ForgetError.{ForgetError}
 use Rattle.line_moves.specs.Moves.{next_check}
 use Rattle.line_plan.specs.declared.plans.Plan.{Plan}
@@ -164,11 +165,7 @@ pub record ForgetsReports (old new : LiveCollectionView) : Type 0 where
 abbrev pub IsForgetSpent : LiveCollectionView → ForgetError → Type 0
 IsForgetSpent old e = IsSpentAt (IsFloorOfLive old.kept) old.floor e
 
--- the number of the message is one in the whole too
-abbrev pub IsNumbered : Floor → MsgName → Type 0
-IsNumbered floor message = message.number + lost_sends floor message.from < 2 ^ 32
-
--- so is that of each message that was received
+-- the number of each message that was received is one in the whole too
 abbrev pub AreReceiptsNumbered : Floor → List Process → Type 0
 AreReceiptsNumbered floor history =
     (q : ℕ) (message : MsgName) → Contains (tape_at history q) (events.Recv message)

@@ -18,10 +18,8 @@ ghost use Rattle.line_tape.specs.Transit.{in_transit};
 use crate::collections::Collection;
 use crate::refusals::CollectError;
 use crate::tellings::Told;
-use crate::whole_names::{
-    bring_names_back, bring_plan_back, kept_check, kept_name, told_check, whole_check, whole_name,
-};
-use line_cuts::{OwnedFloor, whole_floor};
+use crate::whole_names::{bring_names_back, bring_plan_back, kept_check, kept_name};
+use line_cuts::{OwnedFloor, whole_check, whole_floor, whole_name};
 use line_live::ForgetError;
 use line_names::{Choice, Line, MOST_PROCESSES, MsgName, ProcId, ProcSet};
 use line_plan::Plan;
@@ -224,7 +222,7 @@ impl LiveCollection {
             ≡ max (check + lost_checks self.now.floor p) (floor_check self.now.floor p) }
     {
         let _n = self.kept.history().n();
-        told_check(&self.floor, p, check)
+        whole_check(&self.floor, p, check).max(self.floor.check(p))
     }
 
     /// Brings a plan of what is kept back, in its place, but for its line.

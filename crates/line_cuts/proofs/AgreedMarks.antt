@@ -1,6 +1,6 @@
 -- Marks that differ in their order alone, cut; and marks that are cut twice.
 use Rattle.std.proofs.Common.{◌≡◌, ℕ, zero, suc, ◌+◌, ◌-◌, ◌<◌, ◌≤◌, Bool, true, false, ◌&&◌, cond}
-use Rattle.std.proofs.Common.{List, [], ◌∷◌, length, get_or, map, Option, Some, None, refl, sym, ap}
+use Rattle.std.proofs.Common.{List, [], ◌∷◌, length, map, Option, Some, None, refl, sym, ap}
 use Rattle.std.proofs.Common.{◌∙◌, arith, inl, inr}
 use Rattle.std.specs.Prelude.{nat_lt}
 use Rattle.std.specs.List.{filter}
@@ -12,6 +12,7 @@ use Rattle.line_tape.specs.Views.{MarksView, bar_at, damaged_at}
 use Rattle.line_cuts.specs.Cuts.{Floor, cut_bar, cut_marks, floor_check, lost_checks, whole_floor}
 use Rattle.line_cuts.specs.Marks.{AreSameMarks}
 use Rattle.line_cuts.proofs.MarkedCuts.{damaged_left, length_damaged}
+use Rattle.line_cuts.proofs.SameLists.{same_list}
 use Rattle.line_cuts.proofs.SurvivalCuts.{bar_cut, damaged_cut}
 use Rattle.line_cuts.proofs.TwoCuts.{check_both}
 
@@ -98,16 +99,6 @@ bar_twice : (first next both : ℕ) → AreChecks first next both → (bar : Opt
     → cut_bar (next - 1) (cut_bar (first - 1) bar) ≡ cut_bar (both - 1) bar
 bar_twice first next both are None = refl
 bar_twice first next both are (Some bar) = ap Some (less_twice first next both bar are)
-
--- lists of the same length with the same elements are the same
-same_list : {X : Type 0} (d : X) (xs ys : List X) → length xs ≡ length ys
-    → ((p : ℕ) → p < length xs → get_or xs p d ≡ get_or ys p d) → xs ≡ ys
-same_list d [] [] long same = refl
-same_list d [] (y ∷ ys) long same = absurd (omega arith)
-same_list d (x ∷ xs) [] long same = absurd (omega arith)
-same_list {X} d (x ∷ xs) (y ∷ ys) long same =
-    ap (λ (v : X). v ∷ xs) (same 0 (omega arith)) ∙ ap (λ (v : List X). y ∷ v)
-    (same_list d xs ys (omega arith) (λ p h. same (suc p) (omega arith)))
 
 module _ (floor later : Floor) (history : List Process) (marks : MarksView)
     (checks : length later.checks ≡ length history) (first : length floor.checks ≡ length history)

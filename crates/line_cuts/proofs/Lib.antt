@@ -20,6 +20,8 @@ pub mod MarkedCuts
 pub mod FloorLemmas
 pub mod SameLemmas
 pub mod WholeLemmas
+pub mod MappedItems
+pub mod SameLists
 pub mod Example
 pub mod AgreedCuts
 pub mod AgreedLatest

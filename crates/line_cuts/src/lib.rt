@@ -17,6 +17,7 @@ mod laws;
 mod left_events;
 mod marked;
 mod whole_floors;
+mod whole_names;
 
 pub use agreed::{agreed_cuts_plan_alike, agreed_floors_follow};
 pub use catalogues::cut_catalogue;
@@ -30,6 +31,7 @@ pub use histories::cut_history;
 pub use laws::same_marks_plan_alike;
 pub use marked::cut_marks;
 pub use whole_floors::whole_floor;
+pub use whole_names::{bring_entries, bring_line, bring_names, whole_check, whole_name};
 
 #[cfg(test)]
 mod tests;

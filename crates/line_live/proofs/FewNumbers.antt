@@ -59,7 +59,26 @@ use Rattle.line_world.specs.Steps.{reply_of, reply_taken, Does, IsPlan, Recovers
 use Rattle.line_world.proofs.DeliverLemmas.{at_place}
 use Rattle.line_world.proofs.StepLemmas.{may_begin, may_check, may_turn_at}
 use Rattle.line_live.specs.Numbers.{IsFewChoice, IsFewEntry, IsFewName, IsFewPlan, IsFewReply}
+use Rattle.line_cuts.specs.Cuts.{Floor}
+use Rattle.line_cuts.specs.Floors.{HasNumbers}
+use Rattle.line_cuts.specs.Numbers.{IsNumbered, IsNumberedChoice, IsNumberedEntry}
 use Rattle.line_cuts.proofs.FloorLemmas.{transit_before}
+
+-- numbers that are few can be kept in the whole
+module _ (floor : Floor) (numbers : HasNumbers floor) where
+  pub choice_numbered : (p : ℕ) (choice : Choice) → IsFewChoice choice
+      → IsNumberedChoice floor p choice
+  choice_numbered p (AtCheck c) few = omega (arith, few, (numbers p).0)
+  choice_numbered p Now few = tt
+
+  pub name_numbered : (message : MsgName) → IsFewName message → IsNumbered floor message
+  name_numbered message few = omega (arith, few, (numbers message.from).1)
+
+  pub entry_numbered : (entry : Passed) → IsFewEntry entry → IsNumberedEntry floor entry
+  entry_numbered entry few = (
+    choice_numbered entry.at entry.choice few.choice,
+    name_numbered entry.message few.message,
+  )
 
 -- a tape has no more sends than events
 sends_le : (es : List Event) → sends es ≤ length es
@@ -105,7 +124,7 @@ latest_few f (suc n) few =
     ]
 
 -- a front of a tape
-in_front : (tape : List Event) (n : ℕ) (e : Event) → Contains (take n tape) e → Contains tape e
+pub in_front : (tape : List Event) (n : ℕ) (e : Event) → Contains (take n tape) e → Contains tape e
 in_front tape n e among = subst (λ (es : List Event). Contains es e) (take-append-drop n tape)
     (Contains-append_left (take n tape) (drop n tape) e among)
 
@@ -133,7 +152,7 @@ module _ (history : List Process) (is : IsHistory history) where
         process.tape) (get_or_past history p fresh past) in omega (arith, none)
   ]
 
-  checks_few : (p : ℕ) → checks (tape_at history p) ≤ MOST_EVENTS
+  pub checks_few : (p : ℕ) → checks (tape_at history p) ≤ MOST_EVENTS
   checks_few p = omega (arith, tape_few p, checks_le (tape_at history p))
 
   pub sends_few : (p : ℕ) → sends (tape_at history p) ≤ MOST_EVENTS
@@ -144,7 +163,7 @@ module _ (history : List Process) (is : IsHistory history) where
       (items_few p q 0 (tape_at history p) (omega (arith, tape_few p)))
 
   -- a choice that survives
-  surviving_few : (marks : MarksView) (failed : List Bool) (p : ℕ) (choice : Choice)
+  pub surviving_few : (marks : MarksView) (failed : List Bool) (p : ℕ) (choice : Choice)
       → survives history marks failed p choice ≡ true → IsFewChoice choice
   surviving_few marks failed p (AtCheck zero) e = omega arith
   surviving_few marks failed p (AtCheck (suc c)) e =
@@ -172,14 +191,14 @@ module _ (history : List Process) (is : IsHistory history) where
               (checks_few p)
         ]
 
-    abbrev HasFewChoices : List Choice → Type 0
+    abbrev pub HasFewChoices : List Choice → Type 0
     HasFewChoices line = (p : ℕ) → IsFewChoice (choice_at line p)
 
     none_few : (line : List Choice) (p : ℕ) → length line ≤ p → IsFewChoice (choice_at line p)
     none_few line p past =
         subst IsFewChoice (sym (get_or_past line p (AtCheck 0) past)) (omega arith)
 
-    first_few : HasFewChoices (first_ceilings history marks failed)
+    pub first_few : HasFewChoices (first_ceilings history marks failed)
     first_few p =
         let size : length (first_ceilings history marks failed) ≡ length history =
         length-map-range_with_len (latest_choice history marks failed) 0 (length history) in
@@ -189,7 +208,7 @@ module _ (history : List Process) (is : IsHistory history) where
           | inr past ↦ none_few (first_ceilings history marks failed) p (omega (arith, past, size))
         ]
 
-    lowered_few : (ceilings : List Choice) (at : ℕ) → HasFewChoices ceilings
+    pub lowered_few : (ceilings : List Choice) (at : ℕ) → HasFewChoices ceilings
         → HasFewChoices (lowered_ceilings history marks failed ceilings at)
     lowered_few ceilings at few p =
         let lower : Choice = next_lower history marks failed at (choice_at ceilings at) in
@@ -232,7 +251,7 @@ module _ (history : List Process) (is : IsHistory history) where
         (lowered_few ceilings entry.at few) rest)
 
   -- what is in transit was sent
-  replay_few : (line : List Choice) (m : MsgName) → Contains (in_transit history line) m
+  pub replay_few : (line : List Choice) (m : MsgName) → Contains (in_transit history line) m
       → IsFewName m
   replay_few line m among =
       let tape : List Event = tape_at history m.from in

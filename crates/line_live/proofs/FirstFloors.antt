@@ -26,12 +26,12 @@ use Rattle.line_world.specs.Runs.{Takes}
 use Rattle.line_cuts.specs.Cuts.{Floor, floor_check, lost_checks, lost_sends, whole_choice}
 use Rattle.line_cuts.specs.Cuts.{whole_entry, whole_floor, whole_line, whole_name}
 use Rattle.line_live.specs.CutMachines.{cut_step, whole_answer, whole_plan, whole_reply}
-use Rattle.line_live.proofs.ListLemmas.{same_list}
 use Rattle.line_live.specs.Lived.{LetsNothingGo}
 use Rattle.line_live.specs.Lives.{floor_refusal, IsAnsweredByKept, LiveMachine, TakesLive}
 use Rattle.line_live.specs.Lives.{TakesUnless}
-use Rattle.line_live.specs.Numbers.{mapped_in_place}
-use Rattle.line_live.proofs.MappedItems.{mapped_same}
+use Rattle.line_cuts.specs.Numbers.{mapped_in_place}
+use Rattle.line_cuts.proofs.MappedItems.{mapped_same}
+use Rattle.line_cuts.proofs.SameLists.{same_list}
 use Rattle.line_cuts.proofs.WholeLemmas.{same_floors}
 
 map_none : {X : Type 0} (f : X → X) → ((x : X) → f x ≡ x) → (xs : List X) → map f xs ≡ xs

@@ -18,7 +18,6 @@ pub mod AlikeLemmas
 pub mod ForgetLemmas
 pub mod LiveFloors
 pub mod ShapedMachines
-pub mod MappedItems
 pub mod FirstFloors
 pub mod FewNumbers
 pub mod WholeLives

@@ -1,17 +1,7 @@
--- Lists by their places, and tests over ranges.
+-- Lists made of ranges, and tests over them.
 use Rattle.std.proofs.Common.{◌≡◌, ℕ, zero, suc, ◌+◌, ◌<◌, ◌≤◌, Bool, false, ◌||◌, List, [], ◌∷◌}
-use Rattle.std.proofs.Common.{length, map, get_or, refl, ap, ◌∙◌, arith}
+use Rattle.std.proofs.Common.{map, refl, ap, ◌∙◌, arith}
 use Rattle.std.specs.List.{list_any, range_with_len}
-
--- lists with the same element at each place are the same
-pub same_list : {X : Type 0} (d : X) (xs ys : List X) → length xs ≡ length ys
-    → ((p : ℕ) → p < length xs → get_or xs p d ≡ get_or ys p d) → xs ≡ ys
-same_list d [] [] long same = refl
-same_list d [] (y ∷ ys) long same = absurd (omega arith)
-same_list d (x ∷ xs) [] long same = absurd (omega arith)
-same_list {X} d (x ∷ xs) (y ∷ ys) long same =
-    ap (λ (v : X). v ∷ xs) (same 0 (omega arith)) ∙ ap (λ (v : List X). y ∷ v)
-    (same_list d xs ys (omega arith) (λ p h. same (suc p) (omega arith)))
 
 -- the same is made of each number of a range
 pub map_same : {X : Type 0} (f g : ℕ → X) (a n : ℕ) → ((v : ℕ) → a ≤ v → v < a + n → f v ≡ g v)

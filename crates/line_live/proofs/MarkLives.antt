@@ -39,7 +39,7 @@ use Rattle.line_live.specs.CutMachines.{AnswersAlike}
 use Rattle.line_live.specs.CutMachines.{IsBeside}
 use Rattle.line_live.proofs.CauseLemmas.{passes}
 use Rattle.line_live.proofs.EventLives.{made, stranger_same}
-use Rattle.line_live.proofs.ListLemmas.{same_list}
+use Rattle.line_cuts.proofs.SameLists.{same_list}
 
 -- orders of lessened numbers, where one of them is not less
 lt_shift : (a b n : ℕ) → n ≤ a → ltb (a - n) (b - n) ≡ ltb a b

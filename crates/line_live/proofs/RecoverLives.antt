@@ -71,7 +71,8 @@ use Rattle.line_live.specs.CutMachines.{cut_listed, cut_machine, is_listed_on, w
 use Rattle.line_live.specs.CutMachines.{AnswersAlike}
 use Rattle.line_live.specs.CutMachines.{IsBeside, IsItemLeft}
 use Rattle.line_live.proofs.EventLives.{made}
-use Rattle.line_live.proofs.ListLemmas.{any_none, map_same, same_list}
+use Rattle.line_live.proofs.ListLemmas.{any_none, map_same}
+use Rattle.line_cuts.proofs.SameLists.{same_list}
 use Rattle.line_live.proofs.RestartCuts.{state_same, further_same, further_cut, kept_same}
 use Rattle.line_live.proofs.RestartCuts.{damage_kept, none_at, any_kept, rounds_same, all_below}
 

@@ -19,7 +19,8 @@ use Rattle.line_cuts.specs.Cuts.{cut_name, whole_floor}
 use Rattle.line_cuts.proofs.SurvivalCuts.{bar_cut, damaged_cut}
 use Rattle.line_cuts.proofs.TwoCuts.{check_both, history_both, name_both, sends_both, AreBoth}
 use Rattle.line_live.specs.CutMachines.{cut_listed, cut_machine, is_listed_on, IsFurther}
-use Rattle.line_live.proofs.ListLemmas.{map_same, same_list}
+use Rattle.line_live.proofs.ListLemmas.{map_same}
+use Rattle.line_cuts.proofs.SameLists.{same_list}
 
 -- a floor's check, one of what it leaves, and the two as one
 record AreChecks (first next both : ℕ) : Type 0 where

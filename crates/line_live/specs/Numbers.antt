@@ -1,9 +1,6 @@
 -- Numbers that are few enough to be brought back, and what a machine that lets go keeps true of
 -- them.
-use Rattle.std.specs.Prelude.{◌≡◌, ◌≤◌, ℕ, Bool, true, false, All, length, map}
-use Rattle.std.specs.Global.{Vec}
-use Rattle.std.proofs.Common.{sym, ◌∙◌}
-use Rattle.std.proofs.lemmas.List.{length-map}
+use Rattle.std.specs.Prelude.{◌≡◌, ◌≤◌, ℕ, Bool, true, false, All, length}
 use Rattle.line_names.specs.declared.certificates.Passed.{Passed}
 use Rattle.line_names.specs.declared.choices.Choice.{Choice}
 use Rattle.line_names.specs.declared.choices.Choice.TheVariants.{Check as AtCheck, Now}
@@ -67,10 +64,3 @@ pub record IsTallied (floor : Floor) (forgot : Bool) (kept : Machine) : Type 0 w
   pub fifo : forgot ≡ true → kept.mode ≡ Fifo
   pub held : HasFloor kept.history kept.marks floor
   pub checked : All (λ (round : ListedRound). AreChecks round.checks) kept.rounds
-
--- the list in the same block, with each element mapped
-abbrev pub mapped_in_place : {X : Type 0} → (X → X) → Vec X → Vec X
-mapped_in_place f v = record v {
-  items = map f v.items;
-  ok = (v.ok.0 ∙ sym (length-map v.items f), v.ok.1);
-}

@@ -1,5 +1,5 @@
 -- What a collector keeps, beside the whole history. No contract that a caller reads needs this.
-use Rattle.std.specs.Prelude.{◌≡◌, ◌≢◌, ◌<◌, ◌≤◌, ◌+◌, ◌⊎◌, ℕ, Bool, List, length, map}
+use Rattle.std.specs.Prelude.{◌≡◌, ◌≢◌, ◌<◌, ◌≤◌, ◌+◌, ◌⊎◌, ℕ, Bool, List, All, length, map}
 use Rattle.std.specs.Prelude.{Option, Some, None, vec_len}
 use Rattle.line_tape.specs.Event.{HasLongState, NamesBelow}
 use Rattle.line_tape.specs.History.{Process, tape_at}
@@ -19,6 +19,7 @@ use Rattle.line_catalogue.specs.Views.{CatalogueView}
 use Rattle.line_cuts.specs.Cuts.{Floor, FloorSurvives, IsFloor, cut_history, cut_marks}
 use Rattle.line_cuts.specs.Cuts.{whole_entry, whole_line, whole_name}
 use Rattle.line_cuts.specs.Marks.{AreSameMarks}
+use Rattle.line_cuts.specs.Numbers.{IsNumbered, IsNumberedEntry, IsNumberedLine}
 use Rattle.line_posts.specs.Collected.{CollectorView, IsWellNamed}
 use Rattle.line_posts.specs.declared.forgetting.Forgotten.{Forgotten}
 use Rattle.line_posts.specs.declared.forgetting.TheConstants.{ALL_ROUNDS}
@@ -107,6 +108,12 @@ pub record IsPlanned (history : List Process) (marks : MarksView) (failed : List
   pub some_sweep : 1 ≤ plan.sweeps
   pub few_sweeps : plan.sweeps ≤ vec_len plan.certificate + 1
   pub replays : plan.replays.items ≡ in_transit history plan.line
+
+-- all of the plan of what is kept has numbers in the whole
+pub record IsNumberedPlan (floor : Floor) (plan : Plan) : Type 0 where
+  pub line : IsNumberedLine floor plan.line
+  pub certificate : All (IsNumberedEntry floor) plan.certificate.items
+  pub replays : All (IsNumbered floor) plan.replays.items
 
 -- the plan of what is kept has been brought back to the names and numbers of the whole
 pub record IsBroughtBack (floor : Floor) (kept whole : Plan) : Type 0 where

@@ -1,103 +1,75 @@
-//! Names, checks and plans of what is kept, brought back to the names and numbers of the whole, in
-//! their place. Nothing here takes memory.
-ghost use Rattle.std.specs.Prelude.{◌≡◌, IfSome, map, true};
-ghost use Rattle.line_cuts.specs.Cuts.{whole_choice, whole_entry, whole_line, whole_name};
-ghost use Rattle.line_posts.specs.Kept.{IsBroughtBack};
+//! Plans of what is kept, in the names and numbers of the whole. Nothing here takes memory.
+ghost use Rattle.std.specs.Prelude.{◌≡◌, ◌↔◌, true, IsTrue};
+ghost use Rattle.line_cuts.specs.Numbers.{IsNumbered, IsNumberedChoice, IsNumberedEntry};
+ghost use Rattle.line_cuts.specs.Numbers.{IsNumberedLine};
+ghost use Rattle.line_posts.specs.Kept.{IsBroughtBack, IsNumberedPlan};
 
-use line_cuts::OwnedFloor;
+use line_cuts::{OwnedFloor, bring_entries, bring_line, bring_names};
 use line_names::{Choice, Line, MsgName, Passed, ProcId};
 use line_plan::Plan;
 
-/// The name of a message in the whole; none where its number is too great to be kept.
-fn whole_name(floor: &OwnedFloor, message: MsgName) -> Option<MsgName>
-    ensures { IfSome result (λ name. name ≡ whole_name floor.now message) }
+/// Whether the name of a message has a number in the whole.
+fn is_numbered(floor: &OwnedFloor, message: &MsgName) -> bool
+    ensures { IsTrue result ↔ IsNumbered floor.now message.now }
 {
-    match message.number.checked_add(floor.sends(message.from)) {
-        Some(number) => Some(MsgName {
-            from: message.from,
-            inc: message.inc,
-            number,
-        }),
-        None => None,
-    }
+    message.number <= u32::MAX - floor.sends(message.from)
 }
 
-/// A choice of a process in the whole; none where its number is too great to be kept.
-fn whole_choice(floor: &OwnedFloor, p: ProcId, choice: Choice) -> Option<Choice>
-    ensures { IfSome result (λ whole. whole ≡ whole_choice floor.now p choice) }
+/// Whether a choice of a process has one.
+fn is_numbered_choice(floor: &OwnedFloor, p: ProcId, choice: Choice) -> bool
+    ensures { IsTrue result ↔ IsNumberedChoice floor.now p choice }
 {
     match choice {
-        Choice::Check(check) => match check.checked_add(floor.checks_lost(p)) {
-            Some(whole) => Some(Choice::Check(whole.max(floor.check(p)))),
-            None => None,
-        },
-        Choice::Now => Some(Choice::Now),
+        Choice::Check(check) => check <= u32::MAX - floor.checks_lost(p),
+        Choice::Now => true,
     }
 }
 
-/// An entry of a certificate in the whole; none where a number of it is too great to be kept.
-fn whole_entry(floor: &OwnedFloor, entry: Passed) -> Option<Passed>
-    ensures { IfSome result (λ whole. whole ≡ whole_entry floor.now entry) }
+/// Whether an entry of a certificate has both.
+fn is_numbered_entry(floor: &OwnedFloor, entry: &Passed) -> bool
+    ensures { IsTrue result ↔ IsNumberedEntry floor.now entry.now }
 {
-    match whole_choice(floor, entry.at, entry.choice) {
-        Some(choice) => match whole_name(floor, entry.message) {
-            Some(message) => Some(Passed {
-                at: entry.at,
-                choice,
-                message,
-            }),
-            None => None,
-        },
-        None => None,
-    }
+    is_numbered_choice(floor, entry.at, entry.choice) && is_numbered(floor, &entry.message)
 }
 
-/// Brings a line back, and answers whether all its numbers can be kept.
-fn bring_line(floor: &OwnedFloor, line: &mut Line) -> bool
-    ensures { result ≡ true → line.new ≡ whole_line floor.now line.old }
+/// Whether each choice of a line has one.
+fn is_numbered_line(floor: &OwnedFloor, line: &Line) -> bool
+    ensures { result ≡ true → IsNumberedLine floor.now line.now }
 {
     let n = line.len();
     for q in 0..n {
         let p = ProcId::try_new(q, n).unwrap();
-        match whole_choice(floor, p, line.at(p)) {
-            Some(choice) => line.set(p, choice),
-            None => return false,
+        if !is_numbered_choice(floor, p, line.at(p)) {
+            return false;
         }
     }
     true
 }
 
-/// Brings the entries of a certificate back, and answers whether all their numbers can be kept.
-fn bring_entries(floor: &OwnedFloor, entries: &mut Vec<Passed>) -> bool
-    ensures { result ≡ true → entries.new.items ≡ map (whole_entry floor.now) entries.old.items }
+/// Whether all of a plan has numbers in the whole.
+fn is_numbered_plan(floor: &OwnedFloor, plan: &Plan) -> bool
+    ensures { result ≡ true → IsNumberedPlan floor.now plan.now }
 {
-    for i in 0..entries.len() {
-        match whole_entry(floor, entries[i]) {
-            Some(entry) => entries[i] = entry,
-            None => return false,
-        }
-    }
-    true
-}
-
-/// Brings the names of messages back, and answers whether all their numbers can be kept.
-fn bring_names(floor: &OwnedFloor, names: &mut Vec<MsgName>) -> bool
-    ensures { result ≡ true → names.new.items ≡ map (whole_name floor.now) names.old.items }
-{
-    for i in 0..names.len() {
-        match whole_name(floor, names[i]) {
-            Some(name) => names[i] = name,
-            None => return false,
-        }
-    }
-    true
+    is_numbered_line(floor, &plan.line)
+        && plan
+            .certificate
+            .iter()
+            .all(|entry| is_numbered_entry(floor, entry))
+        && plan
+            .replays
+            .iter()
+            .all(|message| is_numbered(floor, message))
 }
 
 /// Brings a plan back, and answers whether all its numbers can be kept.
 pub(crate) fn bring_back(floor: &OwnedFloor, plan: &mut Plan) -> bool
     ensures { result ≡ true → IsBroughtBack floor.now plan.old plan.new }
 {
-    bring_line(floor, &mut plan.line)
-        && bring_entries(floor, &mut plan.certificate)
-        && bring_names(floor, &mut plan.replays)
+    if !is_numbered_plan(floor, plan) {
+        return false;
+    }
+    bring_line(floor, &mut plan.line);
+    bring_entries(floor, &mut plan.certificate);
+    bring_names(floor, &mut plan.replays);
+    true
 }

@@ -7,8 +7,8 @@ use Rattle.line_collect.proofs.ToldPlans.{plan_told}
 use Rattle.line_tape.specs.History.{IsHistory}
 use Rattle.line_collect.proofs.live_collections.LiveCollection.bring_names_back.Goals as goal
 
-pub bring_names_back-requires-clause-told : goal.bring_names_back-requires-clause-told
-bring_names_back-requires-clause-told c =
+pub bring_names_back-requires : goal.bring_names_back-requires
+bring_names_back-requires c =
     let live : LiveCollectionView = record
     { floor = c.self.inside.floor; kept = c.self.inside.kept } in
     let limits : IsHistory live.kept.history = subst IsHistory c.history.ensures.value
@@ -16,7 +16,7 @@ bring_names_back-requires-clause-told c =
     let is : IsPlanToGoBack live.kept c.args.failed.now c.args.plan.now = subst
     (λ (l : LiveCollectionView). IsPlanToGoBack l.kept c.args.failed.now c.args.plan.now)
     (sym c.self.view_is) c.requires in
-    plan_told live c.args.failed.now c.args.plan.now limits c.self.invariant is.plan_is
+    plan_told live limits c.self.invariant c.args.failed.now c.args.plan.now is.plan_is
 
 pub returns : goal.returns
 returns c =

@@ -10,8 +10,8 @@ use Rattle.line_tape.specs.Event.{checks}
 use Rattle.line_tape.specs.History.{Process, tape_at}
 use Rattle.line_collect.proofs.live_collections.LiveCollection.check.Goals as goal
 
-pub whole_check-check-requires-clause-few : goal.whole_check-check-requires-clause-few
-whole_check-check-requires-clause-few c =
+pub whole_check-check-requires : goal.whole_check-check-requires
+whole_check-check-requires c =
     let kept : CollectionView = c.self.inside.kept in
     let by = c.args.by in
     let few : length (tape_at kept.history by) ≤ MOST_EVENTS = subst (λ (h : List Process). length
@@ -25,6 +25,7 @@ whole_check-check-requires-clause-few c =
       value,
       check_few kept by c.args.incarnation c.args.state.now c.args.round few
           c.in-Ok.ensures.0,
+      (c.self.invariant.numbers by).0,
     )
 
 pub invariant_of-self : goal.invariant_of-self

@@ -6,13 +6,13 @@ use Rattle.line_collect.proofs.ToldPlans.{plan_told}
 use Rattle.line_tape.specs.History.{IsHistory}
 use Rattle.line_collect.proofs.live_collections.LiveCollection.plan.Goals as goal
 
-pub bring_plan_back-requires-clause-told : goal.bring_plan_back-requires-clause-told
-bring_plan_back-requires-clause-told c =
+pub bring_plan_back-requires : goal.bring_plan_back-requires
+bring_plan_back-requires c =
     let live : LiveCollectionView = record
     { floor = c.self.inside.floor; kept = c.self.inside.kept } in
     let limits : IsHistory live.kept.history = subst IsHistory c.history.ensures.value
     c.n-n.ensures.limits in
-    plan_told live c.args.failed.now c.in_ok-plan.plan limits c.self.invariant
+    plan_told live limits c.self.invariant c.args.failed.now c.in_ok-plan.plan
     c.in_ok-plan.ensures.plan.plan_is
 
 pub returns-clause-plan : goal.returns-clause-plan

@@ -1,9 +1,9 @@
 -- Each is brought back in its place.
 use Rattle.std.proofs.Common.{◌<◌, length, subst, sym, arith}
 use Rattle.line_cuts.specs.Cuts.{whole_name}
-use Rattle.line_collect.specs.Lives.{IsNumbered}
-use Rattle.line_live.proofs.MappedItems.{mapped_end, mapped_next, mapped_read, mapped_start}
-use Rattle.line_collect.proofs.whole_names.bring_names.Goals as goal
+use Rattle.line_cuts.specs.Numbers.{IsNumbered}
+use Rattle.line_cuts.proofs.MappedItems.{mapped_end, mapped_next, mapped_read, mapped_start}
+use Rattle.line_cuts.proofs.whole_names.bring_names.Goals as goal
 
 pub loop-i-init : goal.loop-i-init
 loop-i-init c = mapped_start (whole_name c.args.floor.now) c.args.names.now

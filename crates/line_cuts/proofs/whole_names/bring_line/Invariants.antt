@@ -1,7 +1,7 @@
 use Rattle.std.proofs.Common.{◌≡◌, ◌<◌, ◌≤◌, ℕ, length}
 use Rattle.line_names.specs.Lines.{choice_at}
 use Rattle.line_cuts.specs.Cuts.{whole_choice}
-use Rattle.line_collect.proofs.whole_names.bring_line.Given as goal
+use Rattle.line_cuts.proofs.whole_names.bring_line.Given as goal
 
 abbrev pub invariant-loop-q : goal.invariant-loop-q
 invariant-loop-q l = record {

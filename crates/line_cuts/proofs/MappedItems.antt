@@ -6,7 +6,7 @@ use Rattle.std.specs.Vec.{with_item}
 use Rattle.std.proofs.lemmas.List.{append-nil, drop_all, length-set, take_all}
 use native.Mathlib.Nat.{ℕ_set}
 use Rattle.std.specs.Coded.{le_prop}
-use Rattle.line_live.specs.Numbers.{mapped_in_place}
+use Rattle.line_cuts.specs.Numbers.{mapped_in_place}
 
 fits_prop : (n c : ℕ) {X : Type 0} (ys : List X) → IsProp ((n ≡ length ys) × (n ≤ c))
 fits_prop n c ys = hlevel (le_prop, ℕ_set)

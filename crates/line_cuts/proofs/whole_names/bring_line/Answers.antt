@@ -7,16 +7,19 @@ use Rattle.line_names.specs.declared.choices.Choice.TheVariants.{Check as AtChec
 use Rattle.line_names.specs.Lines.{choice_at}
 use Rattle.line_cuts.specs.Cuts.{Floor, whole_choice, whole_line}
 use Rattle.line_cuts.proofs.LatestCuts.{length_whole, whole_at}
-use Rattle.line_live.proofs.ListLemmas.{same_list}
-use Rattle.line_live.specs.Numbers.{IsFewChoice}
-use Rattle.line_live.proofs.whole_names.bring_line.Goals as goal
+use Rattle.line_cuts.proofs.SameLists.{same_list}
+use Rattle.line_cuts.specs.Numbers.{IsNumberedChoice}
+use Rattle.line_cuts.proofs.whole_names.bring_line.Goals as goal
 
-pub whole_choice-choice-requires-clause-few : goal.whole_choice-choice-requires-clause-few
-whole_choice-choice-requires-clause-few c =
+pub whole_choice-choice-requires : goal.whole_choice-choice-requires
+whole_choice-choice-requires c =
+    let F = c.args.floor.now in
     let at : c.unwrap-p.result ≡ c.loop-q.q = (rw c.unwrap-p.ensures at c.try_new.ensures).1 in
     let same : c.at.result ≡ choice_at c.args.line.now c.loop-q.q = c.at.ensures ∙ ap
     (choice_at c.loop-q.line) at ∙ c.loop-q.invariant.left c.loop-q.q (omega arith) in
-    subst IsFewChoice (sym same) (c.requires.few c.loop-q.q)
+    subst (λ (p : ℕ). IsNumberedChoice F p c.at.result) (sym at)
+    (subst (IsNumberedChoice F c.loop-q.q) (sym same) (c.requires c.loop-q.q
+    (omega (arith, c.loop-q-test.true, c.len-n.ensures.value, c.loop-q.invariant.count))))
 
 pub loop-q-preserved : goal.loop-q-preserved
 loop-q-preserved c =
