@@ -59,7 +59,7 @@ fn is_left(floor: &OwnedFloor, message: &MsgName) -> bool
 }
 
 /// The name of a message in what is left.
-fn cut_name(floor: &OwnedFloor, message: &MsgName) -> MsgName
+pub fn cut_name(floor: &OwnedFloor, message: &MsgName) -> MsgName
     ensures { result ≡ cut_name floor.now message.now }
 {
     MsgName {
@@ -70,7 +70,7 @@ fn cut_name(floor: &OwnedFloor, message: &MsgName) -> MsgName
 }
 
 /// The round of a check that is left, if it is later than the floor's.
-fn cut_round(last: u32, round: Option<u32>) -> Option<u32>
+pub fn cut_round(last: u32, round: Option<u32>) -> Option<u32>
     ensures { result ≡ cut_round last round }
 {
     match round {

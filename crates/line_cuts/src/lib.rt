@@ -29,6 +29,7 @@ pub use floors::{MOST_LET_GO, OwnedFloor};
 pub use found_floors::floor_at;
 pub use histories::cut_history;
 pub use laws::same_marks_plan_alike;
+pub use left_events::{cut_name, cut_round};
 pub use marked::cut_marks;
 pub use whole_floors::whole_floor;
 pub use whole_names::{bring_entries, bring_line, bring_names, whole_check, whole_name};

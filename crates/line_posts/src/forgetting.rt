@@ -16,7 +16,7 @@ ghost use Rattle.line_posts.specs.Kept.{IsPlanned, IsTested, IsTestRefused, MayA
 use crate::refusals::ForgetWhy;
 use crate::whole_names::bring_back;
 use line_catalogue::{AddError, Catalogue};
-use line_cuts::{OwnedFloor, cut_catalogue, floor_at, whole_floor};
+use line_cuts::{OwnedFloor, cut_catalogue, cut_name, cut_round, floor_at, whole_floor};
 use line_names::{MOST_PROCESSES, MsgName, ProcId, ProcSet};
 use line_plan::{Plan, PlanError};
 use line_tape::{Event, Marks};
@@ -47,27 +47,6 @@ pub(crate) fn everyone(n: u32) -> ProcSet
     all
 }
 
-/// The name in what is kept of a message that was not let go.
-fn kept_name(floor: &OwnedFloor, message: &MsgName) -> MsgName
-    ensures { result ≡ cut_name floor.now message.now }
-{
-    MsgName {
-        from: message.from,
-        inc: message.inc,
-        number: message.number.saturating_sub(floor.sends(message.from)),
-    }
-}
-
-/// The round of a check in what is kept; none where its markers are let go.
-fn kept_round(last: u32, round: Option<u32>) -> Option<u32>
-    ensures { result ≡ cut_round last round }
-{
-    match round {
-        Some(round) => { if last < round { Some(round) } else { None } }
-        None => None,
-    }
-}
-
 /// Whether the receipt of a message may come next on the tape of a process.
 fn test_receipt(catalogue: &Catalogue, p: ProcId, message: MsgName) -> Result<(), AddError>
     ensures ok { OnOk result (IsTested catalogue.now.processes p (RecvEvent message)) }
@@ -95,7 +74,7 @@ fn test_left(
     let Event::Recv { message } = event else {
         return catalogue.test(p, event);
     };
-    match test_receipt(catalogue, p, kept_name(floor, message)) {
+    match test_receipt(catalogue, p, cut_name(floor, message)) {
         Ok(()) => {
             if message.number < floor.sends(message.from) {
                 return Err(AddError::NamesDisagree);
@@ -142,11 +121,11 @@ fn add_left(catalogue: &mut Catalogue, floor: &OwnedFloor, p: ProcId, event: Eve
     match event {
         Event::Send { to, inc, body } => catalogue.append(p, Event::Send { to, inc, body }),
         Event::Recv { message } => {
-            let message = kept_name(floor, &message);
+            let message = cut_name(floor, &message);
             catalogue.append(p, Event::Recv { message });
         }
         Event::Check { state, round } => {
-            let round = kept_round(floor.round(), round);
+            let round = cut_round(floor.round(), round);
             catalogue.append(p, Event::Check { state, round });
         }
         Event::Mark { from, round } => {

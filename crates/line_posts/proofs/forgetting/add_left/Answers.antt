@@ -36,7 +36,7 @@ pub append-requires-in-Recv-clause-named : goal.append-requires-in-Recv-clause-n
 append-requires-in-Recv-clause-named c =
     let (history, marks, left, may) = c.requires.may in
     subst (λ (m : MsgName). m.from < length c.args.catalogue.now.processes)
-    (sym c.kept_name-message.ensures)
+    (sym c.cut_name-message.ensures)
     (receipt_addable c.args.floor.now history marks _ _ left c.args.p c.in-Recv.message
     (subst (MayAdd (Some c.args.floor.now) history c.args.p) c.in-Recv.is may)).named
 
@@ -44,7 +44,7 @@ pub append-requires-in-Recv-clause-agrees : goal.append-requires-in-Recv-clause-
 append-requires-in-Recv-clause-agrees c =
     let (history, marks, left, may) = c.requires.may in
     subst (λ (m : MsgName). AgreesNext c.args.catalogue.now.processes c.args.p (Recv m))
-    (sym c.kept_name-message.ensures)
+    (sym c.cut_name-message.ensures)
     (receipt_addable c.args.floor.now history marks _ _ left c.args.p c.in-Recv.message
     (subst (MayAdd (Some c.args.floor.now) history c.args.p) c.in-Recv.is may)).agrees
 
@@ -58,7 +58,7 @@ append-requires-in-Check-clause-agrees c =
     subst (λ (r : Option ℕ). AgreesNext c.args.catalogue.now.processes c.args.p
     (Check c.in-Check.state r))
     (ap (λ (n : ℕ). cut_round n c.in-Check.round)
-    (sym c.round.ensures) ∙ sym c.kept_round-round.ensures)
+    (sym c.round.ensures) ∙ sym c.cut_round-round.ensures)
     (check_addable c.args.floor.now history marks _ _ left c.args.p c.in-Check.state
     c.in-Check.round
     (subst (MayAdd (Some c.args.floor.now) history c.args.p) c.in-Check.is may)).agrees
@@ -81,7 +81,7 @@ returns-in-Recv-clause-left c = λ history marks left may.
     A.new.self.marks A.ensures.marks c.in-Recv.message
     (subst (MayAdd (Some c.args.floor.now) history c.args.p) c.in-Recv.is may)
     (A.ensures.processes ∙ ap (λ (m : MsgName). with_event c.args.catalogue.now.processes c.args.p
-    (Recv m)) c.kept_name-message.ensures))
+    (Recv m)) c.cut_name-message.ensures))
 
 pub returns-in-Check-clause-left : goal.returns-in-Check-clause-left
 returns-in-Check-clause-left c = λ history marks left may.
@@ -93,7 +93,7 @@ returns-in-Check-clause-left c = λ history marks left may.
     (subst (MayAdd (Some c.args.floor.now) history c.args.p) c.in-Check.is may)
     (A.ensures.processes ∙ ap
     (λ (r : Option ℕ). with_event c.args.catalogue.now.processes c.args.p
-    (Check c.in-Check.state r)) (c.kept_round-round.ensures ∙ ap
+    (Check c.in-Check.state r)) (c.cut_round-round.ensures ∙ ap
     (λ (n : ℕ). cut_round n c.in-Check.round) c.round.ensures)))
 
 pub returns-else-last-round-clause-left : goal.returns-else-last-round-clause-left

@@ -32,7 +32,7 @@ returns-then-message-sends-clause-why c = λ history marks left within.
     let F = c.args.floor.now in
     let m : MsgName = c.in-Recv.message in
     let tested : IsTested K.processes c.args.p (Recv _) = subst (λ (n : MsgName). IsTested
-    K.processes c.args.p (Recv n)) c.kept_name.ensures c.in-Ok.ensures.ok in
+    K.processes c.args.p (Recv n)) c.cut_name.ensures c.in-Ok.ensures.ok in
     subst (λ (e : Event). IsNotAdded (Some F) history c.args.p e NamesDisagree) (sym c.in-Recv.is)
     (gone_refused F history marks K.processes K.marks left c.args.p m
     (omega (arith, c.if-message-sends.true, c.sends.ensures)) tested)
@@ -43,7 +43,7 @@ returns-else-message-sends-clause-ok c = λ history marks left.
     let F = c.args.floor.now in
     let m : MsgName = c.in-Recv.message in
     let tested : IsTested K.processes c.args.p (Recv _) = subst (λ (n : MsgName). IsTested
-    K.processes c.args.p (Recv n)) c.kept_name.ensures c.in-Ok.ensures.ok in
+    K.processes c.args.p (Recv n)) c.cut_name.ensures c.in-Ok.ensures.ok in
     subst (λ (e : Event). MayAdd (Some F) history c.args.p e) (sym c.in-Recv.is)
     (receipt_may F history marks K.processes K.marks left c.args.p m
     (omega (arith, c.if-message-sends.false, c.sends.ensures)) tested)
@@ -55,7 +55,7 @@ returns-in-Err-clause-why c = λ history marks left within.
     let m : MsgName = c.in-Recv.message in
     let refused : IsTestRefused K.processes c.args.p (Recv _) c.in-Err.why = subst
     (λ (n : MsgName). IsTestRefused K.processes c.args.p (Recv n) c.in-Err.why)
-    c.kept_name.ensures c.in-Err.ensures.why in
+    c.cut_name.ensures c.in-Err.ensures.why in
     subst (λ (e : Event). IsNotAdded (Some F) history c.args.p e c.in-Err.why) (sym c.in-Recv.is)
     (receipt_refused F history marks K.processes K.marks left c.args.p m c.in-Err.why within
     refused)
