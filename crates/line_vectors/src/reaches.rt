@@ -189,6 +189,14 @@ impl<'a> ReachRef<'a> {
         ReachRef { starts, lanes, n }
     }
 
+    /// How many lanes it has: one for each process.
+    pub fn n(&self) -> usize
+        ensures value { result ≡ length self.now }
+        ensures limit { length self.now ≤ MOST_PROCESSES }
+    {
+        self.n
+    }
+
     /// One more than the greatest number noted of a process's messages, or 0.
     pub fn lane(&self, p: ProcId) -> u32
         requires { p < length self.now }
