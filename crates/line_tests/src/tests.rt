@@ -16,6 +16,7 @@ mod lanes;
 mod lives;
 mod markers;
 mod openings;
+mod parts;
 mod runs;
 mod vectors;
 

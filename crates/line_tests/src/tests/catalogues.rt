@@ -5,6 +5,7 @@ use line_catalogue::{AddError, Catalogue, CatalogueError, DamageError, Row};
 use line_names::{Body, Choice, Line, MsgName, Passed, ProcId, ProcSet};
 use line_plan::{PlanError, plan};
 use line_tape::{BarError, Event, History, Marks};
+use line_vectors::ReachRef;
 use std::alloc::Global;
 use std::test::Fail;
 
@@ -37,12 +38,42 @@ fn made_at_once(alloc: Global, all: &[Did]) -> Result<Catalogue, Fail> {
     made_of(alloc, &history)
 }
 
+/// Whether a vector has these lanes.
+fn has_lanes(reach: &ReachRef<'_>, lanes: &[u32]) -> bool {
+    let n = reach.n();
+    if lanes.len() != n {
+        return false;
+    }
+    for p in 0..n {
+        let lane = reach.lane(ProcId::try_new(p as u32, n as u32).unwrap());
+        if lane != lanes[p] {
+            return false;
+        }
+    }
+    true
+}
+
+/// Whether two vectors have the same lanes.
+fn are_same_lanes(one: &ReachRef<'_>, other: &ReachRef<'_>) -> bool {
+    let n = one.n();
+    if other.n() != n {
+        return false;
+    }
+    for q in 0..n {
+        let p = ProcId::try_new(q as u32, n as u32).unwrap();
+        if one.lane(p) != other.lane(p) {
+            return false;
+        }
+    }
+    true
+}
+
 /// Whether two rows tell the same of a check.
 fn is_same_row(one: &Row<'_>, other: &Row<'_>) -> bool {
     one.place == other.place
         && one.sends == other.sends
         && one.damaged == other.damaged
-        && one.reach.lanes() == other.reach.lanes()
+        && are_same_lanes(&one.reach, &other.reach)
 }
 
 /// Whether two catalogues show the same of a process: its rows, one by one, and the vector of where
@@ -61,7 +92,7 @@ fn show_the_same(one: &Catalogue, other: &Catalogue, p: ProcId) -> bool {
             return false;
         }
     }
-    one.reach(p, Choice::Now).lanes() == other.reach(p, Choice::Now).lanes()
+    are_same_lanes(&one.reach(p, Choice::Now), &other.reach(p, Choice::Now))
 }
 
 /// Whether two catalogues show the same of each of two processes.
@@ -355,7 +386,7 @@ fn ends_with(catalogue: &Catalogue, p: ProcId, row: (u32, u32, bool), lanes: &[u
         return false;
     }
     let last = rows.at(rows.len() - 1);
-    (last.place, last.sends, last.damaged) == row && last.reach.lanes() == lanes
+    (last.place, last.sends, last.damaged) == row && has_lanes(&last.reach, lanes)
 }
 
 /// Whether the rows of the damaged domino's first process end so.
