@@ -10,6 +10,7 @@ use Rattle.line_vectors.specs.declared.parts.TheConstants.{PART}
 use Rattle.line_vectors.specs.Parts.{part_count, place_in_parts}
 use Rattle.line_vectors.proofs.PartLemmas.{lane-parted, length-parted}
 use Rattle.line_catalogue.specs.declared.kept_rows.KeptRow.{KeptRow}
+use Rattle.line_catalogue.specs.declared.rows.TheConstants.{MOST_PARTS}
 use Rattle.line_catalogue.specs.Laid.{AreAmong, AreHeld, EndWith, IsAmong, starts_at}
 use Rattle.line_catalogue.specs.Laid.{vector_after, width_of}
 use Rattle.line_catalogue.specs.Rows.{new_row}
@@ -30,7 +31,7 @@ module _ (n : ℕ) (some : 0 < n) where
   lanes = replicate (first + part_count n) 0
 
   abbrev starts : List ℕ
-  starts = replicate (part_count n) 0
+  starts = replicate MOST_PARTS 0
 
   abbrev present : List ℕ
   present = replicate n 0
@@ -77,7 +78,7 @@ module _ (n : ℕ) (some : 0 < n) where
 
   held : AreHeld lanes starts present
   held p h laid = (
-    omega (arith, h, wide, many, zero-at (part_count n) (p / PART)),
+    omega (arith, h, wide, many, zero-at MOST_PARTS (p / PART)),
     zero-at (first + part_count n) (place_in_parts starts p) ∙ sym (zero-at n p),
   )
 
@@ -91,7 +92,6 @@ module _ (n : ℕ) (some : 0 < n) where
   first-shows = record {
     laid = record {
       some = omega (arith, some, wide);
-      count = length-replicate (part_count n) 0 ∙ ap part_count (sym wide);
       among = subst (λ m. AreAmong m lanes (row ∷ [])) (sym wide) (λ c d h.
           subst (IsAmong n lanes) (ap (λ (r : KeptRow). r.start) (sym (only c d h))) is-among);
       ordered = λ k c d below h. omega (

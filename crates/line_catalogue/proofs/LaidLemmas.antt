@@ -116,8 +116,7 @@ module _ (lanes longer old_starts starts present : List ℕ) (rows : List KeptRo
     (place sends : ℕ) (laid : AreLaid lanes rows heard old_starts present)
     (kept : take (length lanes) longer ≡ lanes) (more : length lanes ≤ length longer)
     (few : length longer ≤ length lanes + width_of (length present))
-    (ends : EndWith longer present) (held : AreHeld longer starts present)
-    (count : length starts ≡ part_count (length present)) where
+    (ends : EndWith longer present) (held : AreHeld longer starts present) where
   abbrev n : ℕ
   n = length present
 
@@ -209,7 +208,6 @@ module _ (lanes longer old_starts starts present : List ℕ) (rows : List KeptRo
   row-laid = record {
     laid = record {
       some = laid.some;
-      count = count;
       among = added-among;
       ordered = added-ordered;
       early = added-early;
@@ -322,21 +320,26 @@ module _ (lanes starts present : List ℕ) (rows : List KeptRow) (heard : Bool) 
             back-lanes (omega arith) back-alike back-is-among));
       }
 
-  back-held : AreHeld back-lanes back-starts back-vector
-  back-held p h there =
+  -- starts that begin with those of the vector hold its parts
+  back-held : (new : List ℕ) → BeginAlike (part_count w) back-starts new
+      → AreHeld back-lanes new back-vector
+  back-held new begin p h there =
       let below : p < w = omega (arith, h, back-wide) in
-      let place : place_in_parts back-starts p < row.start = back-is-among.before p below in (
-        omega (arith, place, back-many),
-        sym (back-alike (place_in_parts back-starts p) (omega (arith, place)))
+      let place : place_in_parts back-starts p < row.start = back-is-among.before p below in
+      let same : place_in_parts new p ≡ place_in_parts back-starts p = ap (λ i. i + p % PART)
+      (sym (begin (p / PART) (omega (arith, below)))) in (
+        omega (arith, same, place, back-many),
+        ap (λ i. get_or back-lanes i 0) same
+            ∙ sym (back-alike (place_in_parts back-starts p) (omega (arith, place)))
             ∙ sym (lane-parted w back-starts lanes p 0 below),
       )
 
-  pub back-laid : Shows back-lanes (take (c + 1) rows) false back-starts back-vector w
+  pub back-laid : (new : List ℕ) → BeginAlike (part_count w) back-starts new
+      → Shows back-lanes (take (c + 1) rows) false new back-vector w
       (take (c + 1) (map (row_of w lanes) rows))
-  back-laid = record {
+  back-laid new begin = record {
     laid = record {
       some = omega (arith, laid.some, back-wide);
-      count = back-count ∙ ap part_count (sym back-wide);
       among = subst (λ m. AreAmong m back-lanes (take (c + 1) rows)) (sym back-wide) back-among;
       ordered = λ k j d below h. omega (
         arith,
@@ -361,7 +364,7 @@ module _ (lanes starts present : List ℕ) (rows : List KeptRow) (heard : Bool) 
             ap (λ (r : KeptRow). r.start) is,
             ap (λ k. k * width_of w) back-rows,
           ));
-      held = back-held;
+      held = back-held new begin;
       last = λ same. back-last;
     };
     shows = sym (rows-same w (row.start + part_count w) lanes back-lanes (take (c + 1) rows)
@@ -377,7 +380,6 @@ module _ (old new : List KeptRow) (count : length new ≡ length old)
       → AreLaid lanes old heard starts present → AreLaid lanes new heard starts present
   laid-same lanes heard starts present laid = record {
     some = laid.some;
-    count = laid.count;
     among = λ c d h. subst (IsAmong (length present) lanes) (sym (start_same c d))
         (laid.among c d (omega (arith, h, count)));
     ordered = λ k c d below h. omega

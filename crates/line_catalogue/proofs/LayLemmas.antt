@@ -1,12 +1,12 @@
 -- What is held of a vector as its parts are laid, one by one, and at last where they begin.
-use Rattle.std.proofs.Common.{◌≡◌, ◌≢◌, ℕ, ◌+◌, ◌*◌, ◌-◌, ◌/◌, ◌%◌, ◌<◌, List, ◌++◌, length}
+use Rattle.std.proofs.Common.{◌≡◌, ◌≢◌, ℕ, ◌+◌, ◌*◌, ◌-◌, ◌/◌, ◌%◌, ◌<◌, ◌≤◌, List, ◌++◌, length}
 use Rattle.std.proofs.Common.{take, drop, get_or, set, inl, inr, refl, sym, ap, ◌∙◌}
 use Rattle.std.proofs.Common.{subst, arith}
 use Rattle.std.proofs.lemmas.Bool.{cases_eq}
 use Rattle.std.proofs.Math.Seq.{drop-append_seam}
 use Rattle.std.proofs.lemmas.List.{ext_get_or, get_or-set_other, get_or-set_same}
 use Rattle.std.proofs.lemmas.List.{get_or_append_left, get_or-append_right, length-append}
-use Rattle.std.proofs.lemmas.List.{take_all}
+use Rattle.std.proofs.lemmas.List.{get_or-take, length-take-le, take_all}
 use Rattle.line_vectors.specs.declared.parts.TheConstants.{PART}
 use Rattle.line_vectors.specs.Parts.{parted, part_count, place_in_parts}
 use Rattle.line_vectors.proofs.PartLemmas.{lane-parted, length-parted, part-at, part-length}
@@ -15,12 +15,12 @@ use Rattle.line_catalogue.specs.Laid.{AreHeld, EndWith, IsAmong, starts_at, vect
 
 -- a part that is laid after the others is held, and so are those that were
 pub part-laid : (lanes starts present : List ℕ) (k : ℕ) → k < length starts
-    → length starts ≡ part_count (length present) → AreHeld lanes starts present
+    → k < part_count (length present) → AreHeld lanes starts present
     → AreHeld (lanes ++ take PART (drop (k * PART) present)) (set starts k (length lanes)) present
-part-laid lanes starts present k there count held p h laid =
+part-laid lanes starts present k there below held p h laid =
     let part : List ℕ = take PART (drop (k * PART) present) in
     let new : List ℕ = set starts k (length lanes) in
-    let before : k * PART < length present = omega (arith, there, count) in
+    let before : k * PART < length present = omega (arith, below) in
     elim (cases_eq (p / PART) k) [
       | inl here ↦
           let r : ℕ = p % PART in
@@ -48,45 +48,61 @@ part-laid lanes starts present k there count held p h laid =
           )
     ]
 
--- where the parts of a vector begin, told behind the lanes
-module _ (lanes starts present : List ℕ) (count : length starts ≡ part_count (length present))
+-- where the parts of a vector begin, told after the lanes
+module _ (lanes starts present : List ℕ) (count : part_count (length present) ≤ length starts)
     (held : AreHeld lanes starts present)
-    (laid : (j : ℕ) → j < length starts → get_or starts j 0 ≢ NOT_LAID) where
+    (laid : (j : ℕ) → j < part_count (length present) → get_or starts j 0 ≢ NOT_LAID) where
+  abbrev told : List ℕ
+  told = take (part_count (length present)) starts
+
   abbrev all : List ℕ
-  all = lanes ++ starts
+  all = lanes ++ told
+
+  told-long : length told ≡ part_count (length present)
+  told-long = length-take-le (part_count (length present)) starts count
+
+  -- a lane stands where it stood
+  place-told : (p : ℕ) → p < length present → place_in_parts told p ≡ place_in_parts starts p
+  place-told p h = ap (λ i. i + p % PART)
+      (get_or-take (part_count (length present)) starts (p / PART) 0 (omega (arith, h)))
+
+  held-there : (p : ℕ) → p < length present
+      → (place_in_parts told p < length lanes)
+      × (get_or all (place_in_parts told p) 0 ≡ get_or present p 0)
+  held-there p h =
+      let old = held p h (laid (p / PART) (omega (arith, h))) in (
+        omega (arith, place-told p h, old.0),
+        ap (λ i. get_or all i 0) (place-told p h)
+            ∙ get_or_append_left lanes told 0 (place_in_parts starts p) old.0 ∙ old.1,
+      )
+
+  at-end : length all - part_count (length present) ≡ length lanes
+  at-end = omega (arith, length-append lanes told, told-long)
+
+  told-at : starts_at (length present) all (length lanes) ≡ told
+  told-at = ap (take (part_count (length present))) (drop-append_seam lanes told)
+      ∙ take_all (part_count (length present)) told (omega (arith, told-long))
+
+  pub told-of : EndWith all present
+  told-of = record {
+    among = subst (IsAmong (length present) all) (sym at-end) (record {
+      told = omega (arith, length-append lanes told, told-long);
+      before = λ p h. omega
+          (arith, ap (λ (xs : List ℕ). place_in_parts xs p) told-at, (held-there p h).0);
+    });
+    vector = ap (vector_after (length present) all) at-end
+        ∙ ap (λ (xs : List ℕ). parted (length present) xs all) told-at
+        ∙ ext_get_or 0 (parted (length present) told all) present
+        (length-parted (length present) told all) (λ p h.
+        let within : p < length present = omega (arith, h, length-parted (length present) told all)
+        in
+        lane-parted (length present) told all p 0 within ∙ (held-there p within).1);
+  }
 
   -- what was held is held among more lanes
   pub held-on : AreHeld all starts present
   held-on p h there =
       let old = held p h there in (
-        omega (arith, old.0, length-append lanes starts),
-        get_or_append_left lanes starts 0 (place_in_parts starts p) old.0 ∙ old.1,
+        omega (arith, old.0, length-append lanes told),
+        get_or_append_left lanes told 0 (place_in_parts starts p) old.0 ∙ old.1,
       )
-
-  at-end : length all - part_count (length present) ≡ length lanes
-  at-end = omega (arith, length-append lanes starts, count)
-
-  told : starts_at (length present) all (length lanes) ≡ starts
-  told = ap (take (part_count (length present))) (drop-append_seam lanes starts)
-      ∙ take_all (part_count (length present)) starts (omega (arith, count))
-
-  pub told-of : EndWith all present
-  told-of = record {
-    among = subst (IsAmong (length present) all) (sym at-end) (record {
-      told = omega (arith, length-append lanes starts, count);
-      before = λ p h. omega (
-        arith,
-        ap (λ (xs : List ℕ). place_in_parts xs p) told,
-        (held p h (laid (p / PART) (omega (arith, h, count)))).0,
-      );
-    });
-    vector = ap (vector_after (length present) all) at-end
-        ∙ ap (λ (xs : List ℕ). parted (length present) xs all) told
-        ∙ ext_get_or 0 (parted (length present) starts all) present
-        (length-parted (length present) starts all) (λ p h.
-        let within : p < length present = omega
-        (arith, h, length-parted (length present) starts all)
-        in
-        lane-parted (length present) starts all p 0 within
-        ∙ (held-on p within (laid (p / PART) (omega (arith, within, count)))).1);
-  }

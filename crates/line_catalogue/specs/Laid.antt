@@ -59,7 +59,6 @@ AreHeld lanes starts present =
 pub record AreLaid (lanes : List ℕ) (rows : List KeptRow) (heard : Bool) (starts : List ℕ)
     (present : List ℕ) : Type 0 where
   pub some : 0 < length present
-  pub count : length starts ≡ part_count (length present)
   pub among : AreAmong (length present) lanes rows
   pub ordered : (k c : ℕ) (d : KeptRow) → k ≤ c → c < length rows
       → (slice_index_or rows k d).start ≤ (slice_index_or rows c d).start

@@ -32,7 +32,7 @@ pub struct ProcessRows {
     present: Reach,
     /// Where the parts of the present vector begin among the lanes; `NOT_LAID` of a part in which
     /// something was received since.
-    starts: Vec<u32>,
+    starts: [u32; MOST_PARTS],
     /// Whether something was received since the last vector among the lanes.
     heard: bool,
     /// For how many further checks there is room, or fewer. Before an event this number alone is
@@ -53,7 +53,7 @@ impl Model for ProcessRows {
       room = p.room;
     } };
 
-    ghost invariant = { λ p. AreLaid p.lanes.items p.rows.items p.heard p.starts.items p.present
+    ghost invariant = { λ p. AreLaid p.lanes.items p.rows.items p.heard p.starts p.present
         × HaveRowRoom p.room (vec_capacity p.rows - vec_len p.rows)
         (vec_capacity p.lanes - vec_len p.lanes) (width_of (length p.present)) };
 }
@@ -61,12 +61,15 @@ impl Model for ProcessRows {
 /// In place of where a part begins: it was changed since it was laid.
 const NOT_LAID: u32 = u32::MAX;
 
+/// How many parts a vector has at most.
+const MOST_PARTS: usize = 16;
+
 /// Lays a part of the vector of where a process stands after the other lanes, unless it was not
 /// changed since it was laid, in room that was made for it.
-fn lay_part(lanes: &mut Vec<u32>, present: &Reach, starts: &mut Vec<u32>, k: usize)
-    requires count { length starts.old.items ≡ part_count (length present.now) }
-    requires part { k < length starts.old.items }
-    requires held { AreHeld lanes.old.items starts.old.items present.now }
+fn lay_part(lanes: &mut Vec<u32>, present: &Reach, starts: &mut [u32; MOST_PARTS], k: usize)
+    requires part { k < part_count (length present.now) }
+    requires few_parts { part_count (length present.now) ≤ MOST_PARTS }
+    requires held { AreHeld lanes.old.items starts.old present.now }
     requires few { vec_len lanes.old < NOT_LAID }
     requires room { vec_len lanes.old + min PART (length present.now - k * PART)
         ≤ vec_capacity lanes.old }
@@ -74,11 +77,10 @@ fn lay_part(lanes: &mut Vec<u32>, present: &Reach, starts: &mut Vec<u32>, k: usi
     ensures longer { vec_len lanes.old ≤ vec_len lanes.new }
     ensures few { vec_len lanes.new
         ≤ vec_len lanes.old + min PART (length present.now - k * PART) }
-    ensures held { AreHeld lanes.new.items starts.new.items present.now }
-    ensures count { length starts.new.items ≡ length starts.old.items }
-    ensures laid { slice_index starts.new.items k ≢ NOT_LAID }
-    ensures others { (j : ℕ) → j ≢ k
-        → slice_index starts.new.items j ≡ slice_index starts.old.items j }
+    ensures held { AreHeld lanes.new.items starts.new present.now }
+    ensures count { length starts.new ≡ MOST_PARTS }
+    ensures laid { slice_index starts.new k ≢ NOT_LAID }
+    ensures others { (j : ℕ) → j ≢ k → slice_index starts.new j ≡ slice_index starts.old j }
     ensures capacity { vec_capacity lanes.old ≤ vec_capacity lanes.new }
 {
     if starts[k] == NOT_LAID {
@@ -93,25 +95,24 @@ fn lay_part(lanes: &mut Vec<u32>, present: &Reach, starts: &mut Vec<u32>, k: usi
 /// Puts the vector of where a process stands after the others, unless it is the last of them
 /// already, in room that was made for it: the parts that were changed, and then where all parts
 /// begin.
-fn lay(lanes: &mut Vec<u32>, present: &Reach, starts: &mut Vec<u32>, heard: bool)
-    requires count { length starts.old.items ≡ part_count (length present.now) }
-    requires held { AreHeld lanes.old.items starts.old.items present.now }
+fn lay(lanes: &mut Vec<u32>, present: &Reach, starts: &mut [u32; MOST_PARTS], heard: bool)
+    requires held { AreHeld lanes.old.items starts.old present.now }
     requires last { heard ≡ false → EndWith lanes.old.items present.now }
     requires few { vec_len lanes.old + width_of (length present.now) < NOT_LAID }
     requires room { vec_len lanes.old + width_of (length present.now) ≤ vec_capacity lanes.old }
     ensures kept { take (vec_len lanes.old) lanes.new.items ≡ lanes.old.items }
     ensures longer { vec_len lanes.old ≤ vec_len lanes.new }
-    ensures held { AreHeld lanes.new.items starts.new.items present.now }
+    ensures held { AreHeld lanes.new.items starts.new present.now }
     ensures last { EndWith lanes.new.items present.now }
-    ensures count { length starts.new.items ≡ part_count (length present.now) }
     ensures len { vec_len lanes.new ≤ vec_len lanes.old + width_of (length present.now) }
     ensures capacity { vec_capacity lanes.old ≤ vec_capacity lanes.new }
 {
     if heard {
-        for k in 0..starts.len() {
+        let parts = part_count(present.n());
+        for k in 0..parts {
             lay_part(lanes, present, starts, k);
         }
-        lanes.extend_from_slice(starts.as_slice()).unwrap();
+        lanes.extend_from_slice(&starts[..parts]).unwrap();
     }
 }
 
@@ -121,11 +122,11 @@ fn go_back(
     rows: &mut Vec<KeptRow>,
     lanes: &mut Vec<u32>,
     present: &mut Reach,
-    starts: &mut Vec<u32>,
+    starts: &mut [u32; MOST_PARTS],
     heard: &mut bool,
     choice: Choice,
 )
-    requires laid { AreLaid lanes.old.items rows.old.items heard.old starts.old.items present.old }
+    requires laid { AreLaid lanes.old.items rows.old.items heard.old starts.old present.old }
     requires there { (c : ℕ) → choice ≡ AtCheck c → c < vec_len rows.old }
     ensures rows { map (row_of (length present.old) lanes.new.items) rows.new.items
         ≡ rows_kept choice (map (row_of (length present.old) lanes.old.items) rows.old.items) }
@@ -133,7 +134,7 @@ fn go_back(
         ≡ vector_at (map (row_of (length present.old) lanes.old.items) rows.old.items)
         present.old choice }
     ensures lanes { length present.new ≡ length present.old }
-    ensures laid { AreLaid lanes.new.items rows.new.items heard.new starts.new.items present.new }
+    ensures laid { AreLaid lanes.new.items rows.new.items heard.new starts.new present.new }
     ensures room { vec_capacity rows.old - vec_len rows.old
         ≤ vec_capacity rows.new - vec_len rows.new }
     ensures vector { vec_capacity lanes.old - vec_len lanes.old
@@ -142,10 +143,13 @@ fn go_back(
     match choice {
         Choice::Check(c) => {
             let start = rows[c as usize].start as usize;
-            let end = start + starts.len();
+            let parts = part_count(present.n());
+            let end = start + parts;
             let told = &lanes[start..end];
             present.set_to_lent(&ReachRef::in_parts(told, lanes, present.n()));
-            starts.as_mut_slice().copy_from_slice(told);
+            for k in 0..parts {
+                starts[k] = told[k];
+            }
             rows.truncate(c as usize + 1);
             lanes.truncate(end);
             *heard = false;
@@ -218,13 +222,12 @@ impl ProcessRows {
         let parts = part_count(n as usize);
         let rows = first_rows(alloc, first as u32)?;
         let lanes = vec![in alloc; 0; first + parts]?;
-        let starts = vec![in alloc; 0; parts]?;
         let present = Reach::new(alloc, n)?;
         Ok(ProcessRows {
             rows,
             lanes,
             present,
-            starts,
+            starts: [0; MOST_PARTS],
             heard: false,
             room: 0,
         })
@@ -277,7 +280,8 @@ impl ProcessRows {
         ensures succeeds { k ≤ self.old.room → IsOk result }
         ensures room { self.old.room ≤ self.new.room }
     {
-        let width = self.present.n() + self.starts.len();
+        let n = self.present.n();
+        let width = n + part_count(n);
         self.lanes.reserve(k as usize * width)?;
         self.rows.reserve(k as usize)?;
         self.room = count_room(&self.rows, &self.lanes, width);

@@ -5,7 +5,8 @@ use Rattle.line_catalogue.proofs.rows.lay.Goals as goal
 
 pub returns-after-loop-k-clause-last : goal.returns-after-loop-k-clause-last
 returns-after-loop-k-clause-last c =
-    rw (c.extend_from_slice.ensures.items, c.unwrap.ensures, c.as_slice.ensures.value)
-    (told-of c.loop-k.lanes.items c.loop-k.starts.items c.args.present.now
-    c.loop-k.invariant.count c.loop-k.invariant.held (λ j h. c.loop-k.invariant.laid j
+    rw (c.extend_from_slice.ensures.items, c.unwrap.ensures, c.loop-k.invariant.ends)
+    (told-of c.loop-k.lanes.items c.loop-k.starts c.args.present.now
+    (omega (arith, c.loop-k.invariant.count, c.loop-k.invariant.few_parts))
+    c.loop-k.invariant.held (λ j h. c.loop-k.invariant.laid j
     (omega (arith, h, c.loop-k-test.false, c.loop-k.invariant.ends))))

@@ -37,7 +37,7 @@ overflow_cast-len c = omega (
 )
 
 whole : (c : goal.After-self-2-1)
-    → Shows c.lay.new.lanes.items c.push_reserved.new.self.items false c.lay.new.starts.items
+    → Shows c.lay.new.lanes.items c.push_reserved.new.self.items false c.lay.new.starts
     c.self.inside.present (length c.self.inside.present)
     (map (row_of (length c.self.inside.present) c.self.inside.lanes.items) c.self.inside.rows.items
     ++ new_row c.args.place c.args.sends c.self.inside.present ∷ [])
@@ -58,11 +58,11 @@ whole c =
     let kept : take (length lanes) longer ≡ lanes =
     ap (λ k. take k longer) (sym c.self.inside.lanes.ok.0) ∙ c.lay.ensures.kept in
     rw (c.push_reserved.ensures.items, start)
-    (row-laid lanes longer c.self.inside.starts.items c.lay.new.starts.items present
+    (row-laid lanes longer c.self.inside.starts c.lay.new.starts present
     c.self.inside.rows.items c.self.inside.heard c.args.place c.args.sends c.self.invariant.0 kept
     (omega (arith, c.lay.ensures.longer, c.self.inside.lanes.ok.0, c.lay.new.lanes.ok.0))
     (omega (arith, c.lay.ensures.len, c.self.inside.lanes.ok.0, c.lay.new.lanes.ok.0))
-    c.lay.ensures.last c.lay.ensures.held c.lay.ensures.count)
+    c.lay.ensures.last c.lay.ensures.held)
 
 -- the room is one more than what is left of it
 room-split : (c : goal.After-self-2-1) → c.self.inside.room ≡ c.self.inside.room - 1 + 1

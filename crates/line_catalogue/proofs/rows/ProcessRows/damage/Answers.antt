@@ -24,7 +24,7 @@ invariant_of-self c =
     let new : KeptRow = record row { damaged = true } in (
       laid-same rows (set rows c.args.check new) (length-set rows c.args.check new)
           (damage-start rows c.args.check row (there c) c.index_mut.ensures.value)
-          c.self.inside.lanes.items c.self.inside.heard c.self.inside.starts.items
+          c.self.inside.lanes.items c.self.inside.heard c.self.inside.starts
           c.self.inside.present c.self.invariant.0,
       c.self.invariant.1,
     )

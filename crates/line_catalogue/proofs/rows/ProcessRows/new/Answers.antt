@@ -3,6 +3,7 @@ use Rattle.std.proofs.Common.{◌∷◌, [], ℕ, false, List, length, map, ap, 
 use Rattle.std.proofs.Common.{arith}
 use Rattle.std.specs.Prelude.{replicate}
 use Rattle.std.proofs.lemmas.List.{length-replicate}
+use Rattle.line_catalogue.specs.declared.rows.TheConstants.{MOST_PARTS}
 use Rattle.line_catalogue.specs.Laid.{row_of}
 use Rattle.line_catalogue.specs.Rows.{new_row}
 use Rattle.line_catalogue.proofs.FirstRows.{first-shows}
@@ -10,13 +11,12 @@ use Rattle.line_catalogue.proofs.LaidLemmas.{Shows}
 use Rattle.line_catalogue.proofs.rows.ProcessRows.new.Goals as goal
 
 whole : (c : goal.In_ok-present)
-    → Shows c.in_ok-lanes.lanes.items c.in_ok-rows.rows.items false c.in_ok-starts.starts.items
+    → Shows c.in_ok-lanes.lanes.items c.in_ok-rows.rows.items false (replicate MOST_PARTS 0)
     c.in_ok-present.present c.args.n (new_row 0 0 (replicate c.args.n 0) ∷ [])
 whole c =
     rw (
       c.in_ok-lanes.ensures.items_if_clones_equal (λ y same. same),
       c.in_ok-rows.ensures,
-      c.in_ok-starts.ensures.items_if_clones_equal (λ y same. same),
       c.in_ok-present.ensures,
       c.min-first.ensures,
       c.part_count-parts.ensures,

@@ -8,7 +8,7 @@ invariant_of-self c =
     let same : length c.go_back.new.present
     ≡ length c.self.inside.present = c.go_back.ensures.lanes in (
       c.place_rows.ensures.laid c.go_back.new.lanes.items c.go_back.new.heard
-          c.go_back.new.starts.items c.go_back.new.present
+          c.go_back.new.starts c.go_back.new.present
           c.go_back.ensures.laid,
       record {
         rows_fit = omega (
