@@ -9,13 +9,13 @@ use Rattle.std.proofs.lemmas.Bool.{cases_eq, cases_lt, false≢true}
 use Rattle.std.proofs.lemmas.List.{get_or-set_other, get_or-set_same, get_or_default, get_or_past}
 use Rattle.std.proofs.lemmas.List.{take-append-drop, take-append-le, take-take, take_all}
 use Rattle.std.proofs.lemmas.List.Elements.{Contains-append_cases, Contains-append_left}
-use Rattle.std.proofs.lemmas.List.Elements.{Contains-push_cases}
 use Rattle.std.proofs.lemmas.List.Sorted.{IsNonDecreasingBy-push}
 use Rattle.std.proofs.lemmas.Option.{get_or_from_slice_get, same_Some, slice_get-get_or}
 use Rattle.std.proofs.lemmas.Option.{slice_get_within}
 use Rattle.line_names.specs.declared.choices.Choice.{Choice}
 use Rattle.line_names.specs.declared.messages.MsgName.{MsgName}
 use Rattle.line_names.specs.Lines.{choice_at}
+use Rattle.line_names.specs.Sets.{is_member}
 use Rattle.line_tape.specs.declared.events.Event.{Event}
 use Rattle.line_tape.specs.declared.events.Event.TheVariants.{Recv}
 use Rattle.line_tape.specs.Event.{incarnations_sent, sends}
@@ -32,7 +32,7 @@ use Rattle.line_tape.proofs.ReceivedLemmas.{sent_within}
 use Rattle.line_tape.proofs.TransitLemmas.{has_received-iff}
 use Rattle.line_catalogue.specs.Known.{AreAllReceiptsMarked, AreKnown, AreMarkRows, AreReceived}
 use Rattle.line_catalogue.specs.Known.{AreMarksExact, AreMarksExactSince, HasMark, IsReceiptMarked}
-use Rattle.line_catalogue.specs.Known.{IsReceived, IsUnreceived}
+use Rattle.line_catalogue.specs.Known.{AreOldNoted, AreOldUnreceived, IsReceived, IsUnreceived}
 use Rattle.line_catalogue.specs.Left.{open_first, place_at, start_at, AreClosed, AreEnds, AreLeft}
 use Rattle.line_catalogue.specs.Left.{IsUnread}
 use Rattle.line_catalogue.proofs.OpenLemmas.{open-step, sent_whole}
@@ -151,6 +151,40 @@ pub noted-more : (history : List Process) (bases starts : List ℕ) (old new : L
 noted-more history bases starts old new q event more noted =
     λ k m is sent number within. more (start_at starts m.from + k) (noted k m is sent number within)
 
+-- what is received before the line, but not before the place of its receiver, is received between
+-- these
+received-behind : (history : List Process) (line : List Choice) (places : List ℕ) (q : ℕ)
+    (m : MsgName) → (Contains (take (place_at places q) (tape_at history q)) (Recv m) → ⊥)
+    → has_received (events_before history line q) m ≡ true → (q < length history)
+    × Contains (drop (place_at places q) (events_before history line q)) (Recv m)
+received-behind history line places q m unheard received =
+    let tape : List Event = tape_at history q in
+    let n : ℕ = place tape (choice_at line q) in
+    let s : ℕ = place_at places q in
+    let front : Contains (take n tape) (Recv m) =
+    (has_received-iff (take n tape) m).0 received in
+    let inside : q < length history = elim (cases_lt q (length history)) [
+      | inl h ↦ h
+      | inr past ↦ absurd
+          (contains_nothing (Recv m)
+          (subst (λ (es : List Event). Contains es (Recv m))
+          (tape_at-past history q (omega arith))
+          (subst (λ (es : List Event). Contains es (Recv m)) (take-append-drop n tape)
+          (Contains-append_left (take n tape) (drop n tape) (Recv m) front))))
+    ] in (
+      inside,
+      elim (Contains-append_cases (take s (take n tape)) (drop s (take n tape)) (Recv m)
+          (subst (λ (es : List Event). Contains es (Recv m))
+          (sym (take-append-drop s (take n tape))) front)) [
+            | inl early ↦ absurd (unheard (elim (cases_lt n s) [
+              | inl less ↦ Contains-take_more tape n s (Recv m) (omega (arith, less)) front
+              | inr more ↦ subst (λ (es : List Event). Contains es (Recv m))
+                  (take-take s n tape (omega (arith, more))) early
+            ]))
+            | inr behind ↦ behind
+          ],
+    )
+
 -- the mark of a message that isn't received before the place of its receiver tells whether it is
 -- received before the line: unless it is marked it isn't received since, either
 pub mark-tells : (history : List Process) (line : List Choice) (places bases starts : List ℕ)
@@ -161,41 +195,48 @@ pub mark-tells : (history : List Process) (line : List Choice) (places bases sta
     → has_received (events_before history line q) m
     ≡ get_or marks (start_at starts m.from + k) false
 mark-tells history line places bases starts marks q k m known noted sent number within unheard =
-    let tape : List Event = tape_at history q in
-    let n : ℕ = place tape (choice_at line q) in
-    let s : ℕ = place_at places q in
     let at : ℕ = start_at starts m.from + k in
     elim (get_or marks at false) as
-    (λ (b : Bool). get_or marks at false ≡ b → has_received (take n tape) m ≡ b) [
+    (λ (b : Bool). get_or marks at false ≡ b → has_received (events_before history line q) m ≡ b) [
       | true ↦ λ e. known m.from k (sent_within history q m sent) (within, e) q m refl number sent
-      | false ↦ λ e. elim (has_received (take n tape) m) as
-          (λ (b : Bool). has_received (take n tape) m ≡ b → b ≡ false) [
+      | false ↦ λ e. elim (has_received (events_before history line q) m) as
+          (λ (b : Bool). has_received (events_before history line q) m ≡ b → b ≡ false) [
             | true ↦ λ r.
-                let front : Contains (take n tape) (Recv m) =
-                (has_received-iff (take n tape) m).0 r in
-                let inside : q < length history = elim (cases_lt q (length history)) [
-                  | inl h ↦ h
-                  | inr past ↦ absurd
-                      (contains_nothing (Recv m)
-                      (subst (λ (es : List Event). Contains es (Recv m))
-                      (tape_at-past history q (omega arith))
-                      (subst (λ (es : List Event). Contains es (Recv m)) (take-append-drop n tape)
-                      (Contains-append_left (take n tape) (drop n tape) (Recv m) front))))
-                ] in
-                elim (Contains-append_cases (take s (take n tape)) (drop s (take n tape)) (Recv m)
-                (subst (λ (es : List Event). Contains es (Recv m))
-                (sym (take-append-drop s (take n tape))) front)) [
-                  | inl early ↦ absurd (unheard (elim (cases_lt n s) [
-                    | inl less ↦ Contains-take_more tape n s (Recv m) (omega (arith, less)) front
-                    | inr more ↦ subst (λ (es : List Event). Contains es (Recv m))
-                        (take-take s n tape (omega (arith, more))) early
-                  ]))
-                  | inr behind ↦ absurd
-                      (false≢true (sym e ∙ noted q inside
-                      (Recv m) behind k m refl sent number within))
-                ]
+                let behind = received-behind history line places q m unheard r in
+                absurd (false≢true (sym e ∙ noted q behind.0
+                (Recv m) behind.1 k m refl sent number within))
             | false ↦ λ r. refl
           ] refl
+    ] refl
+
+-- what is left isn't received before the place of its receiver
+left-unheard : (history : List Process) (kept places : List ℕ) (left : List MsgName) (q : ℕ)
+    (m : MsgName) → AreLeft history kept places left → Contains left m → IsSentTo history q m
+    → Contains (take (place_at places q) (tape_at history q)) (Recv m) → ⊥
+left-unheard history kept places left q m are among sent c =
+    let was : IsUnread history places m = are.each m among in
+    let one : was.to ≡ q = same_Some _ _ (sym was.sent.to_is ∙ sent.to_is) in
+    let unread : has_received (take (place_at places q) (tape_at history q)) m
+    ≡ false = subst (λ (j : ℕ). has_received (take (place_at places j) (tape_at history j)) m
+    ≡ false) one was.unread in
+    false≢true
+    (sym unread ∙ (has_received-iff (take (place_at places q) (tape_at history q)) m).1 c)
+
+-- of a sender that isn't noted nothing that is left from before its base is received before the
+-- line
+pub old-unreceived : (history : List Process) (line : List Choice) (kept places bases : List ℕ)
+    (left : List MsgName) (senders : List Bool) (p base : ℕ) → AreLeft history kept places left
+    → AreOldNoted history line places bases left senders → is_member senders p ≡ false
+    → base ≡ start_at bases p → AreOldUnreceived history line p base left
+old-unreceived history line kept places bases left senders p base are noted unnoted is =
+    λ q m among from old sent. elim (has_received (events_before history line q) m) as
+    (λ (b : Bool). has_received (events_before history line q) m ≡ b → b ≡ false) [
+      | true ↦ λ r.
+          let behind = received-behind history line places q m
+          (left-unheard history kept places left q m are among sent) r in
+          absurd (false≢true (sym unnoted ∙ ap (is_member senders) (sym from) ∙ noted q m behind.0
+          among behind.1 (omega (arith, old, is, ap (start_at bases) from))))
+      | false ↦ λ r. refl
     ] refl
 
 -- what one mark tells
@@ -247,14 +288,8 @@ module _ (history : List Process) (line : List Choice) (kept places bases starts
 
   pub row-told : (left : List MsgName) → AreLeft history kept places left
       → AreMarksExact history line p base row left
-  row-told left are = λ q k m among from number within sent.
-      let was : IsUnread history places m = are.each m among in
-      let one : was.to ≡ q = same_Some _ _ (sym was.sent.to_is ∙ sent.to_is) in
-      let unread : has_received (take (place_at places q) (tape_at history q)) m
-      ≡ false = subst (λ (j : ℕ). has_received (take (place_at places j) (tape_at history j)) m
-      ≡ false) one was.unread in
-      row-tells q k m from number within sent (λ c. false≢true
-      (sym unread ∙ (has_received-iff (take (place_at places q) (tape_at history q)) m).1 c))
+  row-told left are = λ q k m among from number within sent. row-tells q k m from number within
+      sent (left-unheard history kept places left q m are among sent)
 
   -- and where the kept line is closed, of each that is sent behind it
   pub row-told-since : (ends : List ℕ) → AreClosed history kept places → AreEnds history kept line
@@ -270,16 +305,6 @@ pub row-received : (history : List Process) (line : List Choice) (bases starts :
     → AreReceived history line p base row
 row-received history line bases starts marks p base row known inside is marked = λ k mark.
     subst (λ (j : ℕ). IsReceived history line p (j + k)) (sym is) (known p k inside (marked k mark))
-
--- the mark of one of the messages
-pub told-one : (history : List Process) (line : List Choice) (p base : ℕ) (marks : List Bool)
-    (left : List MsgName) (m : MsgName) → m.from ≡ p → Contains left m → AreMarksExact history line
-    p base marks left → AreMarksExact history line m.from base marks (m ∷ [])
-told-one history line p base marks left m own c told =
-    λ q k x among from number within sent. elim (Contains-push_cases [] m x among) [
-      | inl nothing ↦ absurd (contains_nothing x nothing)
-      | inr e ↦ told q k x (subst (Contains left) e c) (from ∙ own) number within sent
-    ]
 
 -- as many marks, written back
 pub written-back : (len : ℕ) (new old : List Bool) → len ≡ length old → length new ≡ length old

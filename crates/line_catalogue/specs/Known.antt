@@ -5,6 +5,7 @@ use Rattle.std.specs.Prelude.{Contains, slice_index_or}
 use Rattle.std.specs.List.Sorted.{IsNonDecreasing}
 use Rattle.line_names.specs.declared.choices.Choice.{Choice}
 use Rattle.line_names.specs.declared.messages.MsgName.{MsgName}
+use Rattle.line_names.specs.Sets.{is_member}
 use Rattle.line_tape.specs.declared.events.Event.{Event}
 use Rattle.line_tape.specs.declared.events.Event.TheVariants.{Recv}
 use Rattle.line_tape.specs.Event.{sends}
@@ -49,6 +50,13 @@ AreMarksExactSince history line p end base marks =
     → k < length marks → IsSentTo history q message
     → has_received (events_before history line q) message ≡ slice_index_or marks k false
 
+-- none of these messages of process p from before its base is received before the line
+abbrev pub AreOldUnreceived : List Process → List Choice → ℕ → ℕ → List MsgName → Type 0
+AreOldUnreceived history line p base left =
+    (q : ℕ) (message : MsgName) → Contains left message → message.from ≡ p → message.number < base
+    → IsSentTo history q message
+    → has_received (events_before history line q) message ≡ false
+
 -- the marks of each process stand from its start up to the start of the next one
 pub record AreMarkRows (history : List Process) (starts : List ℕ) (marks : List Bool) : Type 0 where
   pub count : length starts ≡ length history + 1
@@ -88,3 +96,12 @@ abbrev pub AreAllReceiptsMarked : List Process → List Choice → List ℕ → 
 AreAllReceiptsMarked history line places bases starts marks =
     (q : ℕ) → q < length history
     → AreReceiptsMarkedSince history line bases starts marks q (place_at places q)
+
+-- the senders have that of each of these messages that is received after a place and before the
+-- line, though it is from before its sender's base
+abbrev pub AreOldNoted : List Process → List Choice → List ℕ → List ℕ → List MsgName → List Bool
+    → Type 0
+AreOldNoted history line places bases left senders =
+    (q : ℕ) (message : MsgName) → q < length history → Contains left message
+    → Contains (drop (place_at places q) (events_before history line q)) (Recv message)
+    → message.number < start_at bases message.from → is_member senders message.from ≡ true

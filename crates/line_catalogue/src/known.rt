@@ -28,7 +28,8 @@ const EVENTS_FOR_A_SEND: u64 = 8;
 const SENDS_FOR_AN_EVENT: u64 = 8;
 
 // So many marks are there before the kept line for each message that was kept, on the average. The
-// messages that were sent before these are asked of.
+// messages that were sent before these are asked of, unless nothing of their sender from before
+// these is received since.
 const MARKS_FOR_A_MESSAGE: usize = 8;
 
 /// For each process marks at its sends from its base on that stand before a line. Those of all
@@ -241,9 +242,9 @@ fn mark_receipt(
 
 /// A process, and how many of its first events are not walked.
 #[derive(Clone, Copy)]
-struct Receiver {
-    p: ProcId,
-    place: u32,
+pub struct Receiver {
+    pub p: ProcId,
+    pub place: u32,
 }
 
 /// Marks what a process receives after its place and before the line.

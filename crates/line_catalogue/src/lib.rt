@@ -17,6 +17,7 @@ mod known;
 mod laws;
 mod ledgers;
 mod numbers;
+mod olds;
 mod refusals;
 mod rows;
 mod senders;

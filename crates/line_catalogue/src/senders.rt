@@ -1,5 +1,5 @@
 //! What is in transit of one process.
-ghost use Rattle.std.specs.Prelude.{◌≡◌, ◌<◌, ◌≤◌, ◌+◌, ◌++◌, ◌∷◌, [], ℕ, List, not, length};
+ghost use Rattle.std.specs.Prelude.{◌≡◌, ◌<◌, ◌≤◌, ◌+◌, ◌++◌, ℕ, List, not, length, Contains};
 ghost use Rattle.std.specs.Prelude.{true, false, IfOk, None, OnOk, Some};
 ghost use Rattle.std.specs.List.Sorted.{IsNonDecreasing, IsNonDecreasingBy};
 ghost use Rattle.line_names.specs.declared.messages.MsgName.{MsgName};
@@ -8,7 +8,7 @@ ghost use Rattle.line_tape.specs.Fit.{IsSentTo};
 ghost use Rattle.line_tape.specs.Line.{events_before, IsLine};
 ghost use Rattle.line_tape.specs.Transit.{has_received};
 ghost use Rattle.line_catalogue.specs.Known.{AreMarksExact, AreMarksExactSince, AreReceived};
-ghost use Rattle.line_catalogue.specs.Known.{IsReceived, IsUnreceived};
+ghost use Rattle.line_catalogue.specs.Known.{AreOldUnreceived, IsReceived, IsUnreceived};
 ghost use Rattle.line_catalogue.specs.Left.{messages_of, open_first, AreSent, ComeInOrder, HasOpen};
 ghost use Rattle.line_catalogue.specs.Left.{HasOpenBeside};
 
@@ -35,6 +35,8 @@ pub struct Sender<'a> {
     /// Whether the kept line is closed: of the later messages, what has a mark and is not marked is
     /// not received before the line.
     pub closed: bool,
+    /// Whether no message that was kept, and is from before the base, is received before the line.
+    pub quiet: bool,
 }
 
 /// Whether a process receives the message before the line.
@@ -105,16 +107,24 @@ fn add_old(
     Ok(())
 }
 
-/// Whether a message that was sent is not received before the line: its mark tells that, if it has
-/// one.
-fn is_open(history: &History, line: &Line, message: &MsgName, base: u32, known: &[bool]) -> bool
+/// Whether a message of the sender that was kept is not received before the line: its mark tells
+/// that, if it has one, and a quiet sender, if the message is from before the base.
+fn is_open(history: &History, line: &Line, sender: &Sender<'_>, message: &MsgName) -> bool
     requires line { IsLine history.now.processes line.now }
-    requires told { AreMarksExact history.now.processes line.now message.now.from base known.now
-        (message.now ∷ []) }
+    requires own { message.now.from ≡ sender.now.p }
+    requires kept { Contains sender.now.left.now message.now }
+    requires told { AreMarksExact history.now.processes line.now sender.now.p sender.now.base
+        sender.now.marks.now sender.now.left.now }
+    requires quiet { sender.now.quiet ≡ true → AreOldUnreceived history.now.processes line.now
+        sender.now.p sender.now.base sender.now.left.now }
     ensures { (q : ℕ) → IsSentTo history.now.processes q message.now
         → result ≡ not (has_received (events_before history.now.processes line.now q) message.now) }
 {
-    match mark_of(known, base, message.number) {
+    let base = sender.base;
+    if message.number < base && sender.quiet {
+        return true;
+    }
+    match mark_of(sender.marks, base, message.number) {
         Some(mark) => !mark,
         None => match history.addressee(message) {
             Some(q) => !is_received(history, line, q, message),
@@ -151,15 +161,15 @@ pub fn add_first(
         sender.now.row.now sender.now.left.now }
     requires told { AreMarksExact history.now.processes line.now sender.now.p sender.now.base
         sender.now.marks.now sender.now.left.now }
+    requires quiet { sender.now.quiet ≡ true → AreOldUnreceived history.now.processes line.now
+        sender.now.p sender.now.base sender.now.left.now }
     ensures { OnOk result (messages.new.items ≡ messages.old.items
         ++ open_first history.now.processes line.now sender.now.p sender.now.end) }
 {
     let kept = sent_by(sender.left, sender.p);
     if sender.row.is_empty() {
         for message in kept {
-            if message.number < sender.end
-                && is_open(history, line, message, sender.base, sender.marks)
-            {
+            if message.number < sender.end && is_open(history, line, sender, message) {
                 messages.push(*message)?;
             }
         }

@@ -3,6 +3,7 @@ ghost use Rattle.std.specs.Prelude.{◌≡◌, ◌<◌, ◌≤◌, ◌++◌, tru
 ghost use Rattle.line_tape.specs.Event.{sends};
 ghost use Rattle.line_tape.specs.Line.{events_before, IsLine};
 ghost use Rattle.line_catalogue.specs.Known.{AreReceived, AreMarksExact, AreMarksExactSince};
+ghost use Rattle.line_catalogue.specs.Known.{AreOldUnreceived};
 ghost use Rattle.line_catalogue.specs.Left.{open_first, AreLeft, AreSent, AreSettledUpTo};
 ghost use Rattle.line_catalogue.specs.Left.{ComeInOrder, HasOpenBeside};
 
@@ -10,6 +11,7 @@ use crate::candidates::candidates;
 use crate::ends::ends_before;
 use crate::kept_lines::KeptLine;
 use crate::known::find_known;
+use crate::olds::find_old;
 use crate::senders::{Sender, add_first, add_since};
 use line_names::{Line, MsgName, ProcId, ProcSet};
 use line_tape::History;
@@ -49,6 +51,8 @@ fn settle_sender(
         sender.now.marks.now }
     requires told { AreMarksExact history.now.processes line.now sender.now.p sender.now.base
         sender.now.marks.now sender.now.left.now }
+    requires quiet { sender.now.quiet ≡ true → AreOldUnreceived history.now.processes line.now
+        sender.now.p sender.now.base sender.now.left.now }
     requires told_since { sender.now.closed ≡ true
         → AreMarksExactSince history.now.processes line.now sender.now.p sender.now.end
         sender.now.base sender.now.marks.now }
@@ -95,17 +99,20 @@ pub fn find_settled(
     let ends = bounds.as_slice();
     let rows = candidates(history, ends, kept.places, &ProcSet::empty(), alloc, line)?;
     let received = find_known(history, ends, kept.places, kept.left.len(), alloc, line);
+    let old = find_old(history, &received, kept, line);
     let mut moved = Vec::with_capacity(alloc, n as usize)?;
     let mut messages = Vec::with_capacity(alloc, kept.left.len())?;
     for p in 0..n {
+        let id = ProcId::try_new(p, n).unwrap();
         let sender = Sender {
-            p: ProcId::try_new(p, n).unwrap(),
+            p: id,
             end: ends[p as usize],
             left: kept.left,
             row: &rows[p as usize],
             base: received.base(p),
             marks: received.row(p),
             closed: false,
+            quiet: !old.has(id),
         };
         let start = settle_sender(history, line, &sender, credit, &mut messages)?;
         moved.push_reserved(start);

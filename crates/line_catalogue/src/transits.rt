@@ -8,6 +8,7 @@ use crate::candidates::candidates;
 use crate::ends::ends_before;
 use crate::kept_lines::KeptLine;
 use crate::known::find_known;
+use crate::olds::find_old;
 use crate::senders::{Sender, add_first, add_since};
 use line_names::{Line, MsgName, ProcId, ProcSet};
 use line_tape::History;
@@ -36,16 +37,19 @@ pub fn find_transit(
     let ends = bounds.as_slice();
     let rows = candidates(history, ends, kept.places, strangers, alloc, line)?;
     let received = find_known(history, ends, kept.places, kept.left.len(), alloc, line);
+    let old = find_old(history, &received, kept, line);
     let mut messages = Vec::with_capacity(alloc, kept.left.len())?;
     for p in 0..n {
+        let id = ProcId::try_new(p, n).unwrap();
         let sender = Sender {
-            p: ProcId::try_new(p, n).unwrap(),
+            p: id,
             end: ends[p as usize],
             left: kept.left,
             row: &rows[p as usize],
             base: received.base(p),
             marks: received.row(p),
             closed: kept.closed,
+            quiet: !old.has(id),
         };
         add_first(history, line, &sender, &mut messages)?;
         add_since(history, line, &sender, None, &mut messages)?;

@@ -12,7 +12,6 @@ use Rattle.line_tape.specs.History.{Process}
 use Rattle.line_tape.specs.Line.{events_before}
 use Rattle.line_tape.specs.Transit.{has_received}
 use Rattle.line_catalogue.specs.Left.{messages_of, open_first}
-use Rattle.line_catalogue.proofs.KnownLemmas.{told-one}
 use Rattle.line_catalogue.proofs.LeftLemmas.{in_map}
 use Rattle.line_catalogue.proofs.OpenLemmas.{flipped, open-told}
 use Rattle.line_catalogue.proofs.SenderLemmas.{among-messages_of, from-messages_of, gap-messages_of}
@@ -38,20 +37,22 @@ loop-message-init c = λ b low passed next.
     (c.is_empty.ensures.0 c.if-is_empty.true) c.requires.order c.requires.end c.requires.held 0
     0 b (omega arith) low (λ j l. absurd (omega (arith, l))) next)
 
-pub is_open-requires-clause-told : goal.is_open-requires-clause-told
-is_open-requires-clause-told c =
+pub is_open-requires-clause-own : goal.is_open-requires-clause-own
+is_open-requires-clause-own c =
     let p : ℕ = c.args.sender.now.p in
-    let left : List MsgName = c.args.sender.now.left.now in
-    let kept : List MsgName = c.sent_by-kept.result.now in
-    let is : kept ≡ messages_of p left = c.sent_by-kept.ensures in
-    let i : ℕ = c.loop-message.message-index in
+    let is : c.sent_by-kept.result.now
+    ≡ messages_of p c.args.sender.now.left.now = c.sent_by-kept.ensures in
+    ap (λ (x : MsgName). x.from) c.message-item.is ∙ subst
+    (All (λ (x : MsgName). x.from ≡ p)) (sym is)
+    (from-messages_of p c.args.sender.now.left.now) c.loop-message.message-index
+    c.message-item.result (omega arith)
+
+pub is_open-requires-clause-kept : goal.is_open-requires-clause-kept
+is_open-requires-clause-kept c =
     let m : MsgName = c.message-item.result in
-    let own : m.from ≡ p = ap (λ (x : MsgName). x.from) c.message-item.is ∙ subst
-    (All (λ (x : MsgName). x.from ≡ p)) (sym is) (from-messages_of p left) i m (omega arith) in
-    let among : Contains left m = among-messages_of p left m
-    (subst (λ (ms : List MsgName). Contains ms m) is (i, omega arith, sym c.message-item.is)) in
-    told-one c.args.history.now.processes c.args.line.now p c.args.sender.now.base
-    c.args.sender.now.marks.now left m own among c.requires.told
+    among-messages_of c.args.sender.now.p c.args.sender.now.left.now m
+    (subst (λ (ms : List MsgName). Contains ms m) c.sent_by-kept.ensures
+    (c.loop-message.message-index, omega arith, sym c.message-item.is))
 
 pub loop-message-preserved : goal.loop-message-preserved
 loop-message-preserved c = λ b low passed next.

@@ -1,6 +1,6 @@
 -- One sender more.
 use Rattle.std.proofs.Common.{◌≡◌, ◌<◌, ◌≤◌, ◌+◌, ◌++◌, ◌∷◌, [], List, ℕ, length, sym, ap, ◌∙◌}
-use Rattle.std.proofs.Common.{subst, arith, inl, inr}
+use Rattle.std.proofs.Common.{subst, true, arith, inl, inr}
 use Rattle.std.specs.List.{Contains}
 use Rattle.std.proofs.lemmas.Bool.{cases_lt}
 use Rattle.std.proofs.lemmas.List.Elements.{Contains-append_left}
@@ -13,8 +13,9 @@ use Rattle.line_tape.specs.Line.{events_before}
 use Rattle.line_catalogue.specs.Known.{AreReceived, AreMarksExact}
 use Rattle.line_catalogue.specs.Left.{numbers_at, open_first, start_at, AreEnds, HasOpenBeside}
 use Rattle.line_catalogue.specs.Left.{HaveLeft}
-use Rattle.line_catalogue.proofs.KnownLemmas.{row-received, row-told}
+use Rattle.line_catalogue.proofs.KnownLemmas.{old-unreceived, row-received, row-told}
 use Rattle.line_catalogue.proofs.LeftLemmas.{ends-more, has-open, have-open}
+use Rattle.line_catalogue.proofs.OpenLemmas.{flipped}
 use Rattle.line_catalogue.proofs.OrderLemmas.{below-first, below-next, below-none, AreOpenBelow}
 use Rattle.line_catalogue.proofs.settlings.find_settled.Goals as goal
 
@@ -38,7 +39,7 @@ settle_sender-requires-clause-held c =
     let row : List ℕ = c.index.result.now in
     let ends : List ℕ = c.as_slice-ends.result.now in
     let end : ℕ = start_at ends s in
-    let at : c.unwrap.result ≡ s = (rw c.unwrap.ensures at c.try_new.ensures).1 in
+    let at : c.unwrap-id.result ≡ s = (rw c.unwrap-id.ensures at c.try_new.ensures).1 in
     let inside : s < length history = omega (arith, c.n-n.ensures.value) in
     let is : numbers_at c.in_ok-rows.rows.items s ≡ row = get_or_default c.in_ok-rows.rows.items s
     [] row (omega (arith, inside, c.in_ok-rows.ensures.count)) ∙ sym c.index.ensures in
@@ -62,7 +63,7 @@ settle_sender-requires-clause-told c =
     let line : List Choice = c.args.line.now in
     let s : ℕ = c.loop-p.p in
     let received = c.find_known-received.result in
-    let at : c.unwrap.result ≡ s = (rw c.unwrap.ensures at c.try_new.ensures).1 in
+    let at : c.unwrap-id.result ≡ s = (rw c.unwrap-id.ensures at c.try_new.ensures).1 in
     subst (λ (k : ℕ). AreMarksExact history line k c.base.result c.row.result.now
     c.args.kept.left.now) (sym at)
     (row-told history line c.args.kept.starts.now c.args.kept.places.now received.bases.items
@@ -76,12 +77,25 @@ settle_sender-requires-clause-known c =
     let line : List Choice = c.args.line.now in
     let s : ℕ = c.loop-p.p in
     let received = c.find_known-received.result in
-    let at : c.unwrap.result ≡ s = (rw c.unwrap.ensures at c.try_new.ensures).1 in
+    let at : c.unwrap-id.result ≡ s = (rw c.unwrap-id.ensures at c.try_new.ensures).1 in
     let inside : s < length history = omega (arith, c.n-n.ensures.value) in
     subst (λ (k : ℕ). AreReceived history line k c.base.result c.row.result.now) (sym at)
     (row-received history line received.bases.items received.starts.items received.marks.items s
     c.base.result c.row.result.now c.find_known-received.ensures.known inside c.base.ensures
     c.row.ensures.marked)
+
+pub settle_sender-requires-clause-quiet : goal.settle_sender-requires-clause-quiet
+settle_sender-requires-clause-quiet c = λ on.
+    let history : List Process = c.args.history.now.processes in
+    let line : List Choice = c.args.line.now in
+    let s : ℕ = c.loop-p.p in
+    let left : List MsgName = c.args.kept.left.now in
+    let received = c.find_known-received.result in
+    let at : c.unwrap-id.result ≡ s = (rw c.unwrap-id.ensures at c.try_new.ensures).1 in
+    old-unreceived history line c.args.kept.starts.now c.args.kept.places.now received.bases.items
+    left c.find_old-old.result c.unwrap-id.result c.base.result c.requires.left
+    c.find_old-old.ensures (sym c.has.ensures ∙ flipped c.has.result true on)
+    (c.base.ensures ∙ ap (start_at received.bases.items) (sym at))
 
 pub loop-p-preserved : goal.loop-p-preserved
 loop-p-preserved c =
@@ -91,7 +105,7 @@ loop-p-preserved c =
     let moved : List ℕ = c.loop-p.moved.items in
     let start : ℕ = c.in_ok-start.start in
     let messages : List MsgName = c.settle_sender.new.messages.items in
-    let at : c.unwrap.result ≡ s = (rw c.unwrap.ensures at c.try_new.ensures).1 in
+    let at : c.unwrap-id.result ≡ s = (rw c.unwrap-id.ensures at c.try_new.ensures).1 in
     let new : c.push_reserved.new.self.items
     ≡ moved ++ start ∷ [] = c.push_reserved.ensures.items in
     let older : List MsgName = c.loop-p.messages.items in

@@ -1,6 +1,6 @@
 -- One sender more: what is to be looked at has all that is in transit.
 use Rattle.std.proofs.Common.{◌≡◌, ◌<◌, ◌+◌, ◌++◌, ◌∷◌, [], List, ℕ, suc, length, map, refl, sym}
-use Rattle.std.proofs.Common.{ap, ◌∙◌, subst, arith}
+use Rattle.std.proofs.Common.{true, ap, ◌∙◌, subst, arith}
 use Rattle.std.specs.List.{flat_map, range_with_len}
 use Rattle.std.proofs.lemmas.List.{flat_map_more, get_or_default}
 use Rattle.line_names.specs.declared.choices.Choice.{Choice}
@@ -10,9 +10,10 @@ use Rattle.line_tape.specs.Transit.{Letter, open_letters}
 use Rattle.line_tape.proofs.TransitLemmas.{range-push}
 use Rattle.line_catalogue.specs.Known.{AreReceived, AreMarksExact, AreMarksExactSince}
 use Rattle.line_catalogue.specs.Left.{numbers_at, open_first, start_at, AreEnds, HasOpenBeside}
-use Rattle.line_catalogue.proofs.KnownLemmas.{row-received, row-told, row-told-since}
+use Rattle.line_catalogue.proofs.KnownLemmas.{old-unreceived, row-received, row-told}
+use Rattle.line_catalogue.proofs.KnownLemmas.{row-told-since}
 use Rattle.line_catalogue.proofs.LeftLemmas.{has-open}
-use Rattle.line_catalogue.proofs.OpenLemmas.{open-all}
+use Rattle.line_catalogue.proofs.OpenLemmas.{flipped, open-all}
 use Rattle.line_catalogue.proofs.transits.find_transit.Goals as goal
 
 pub loop-p-init : goal.loop-p-init
@@ -26,7 +27,7 @@ add_first-requires-clause-held c =
     let row : List ℕ = c.index.result.now in
     let ends : List ℕ = c.as_slice-ends.result.now in
     let end : ℕ = start_at ends s in
-    let at : c.unwrap.result ≡ s = (rw c.unwrap.ensures at c.try_new.ensures).1 in
+    let at : c.unwrap-id.result ≡ s = (rw c.unwrap-id.ensures at c.try_new.ensures).1 in
     let inside : s < length history = omega (arith, c.n-n.ensures.value) in
     let is : numbers_at c.in_ok-rows.rows.items s ≡ row = get_or_default c.in_ok-rows.rows.items s
     [] row (omega (arith, inside, c.in_ok-rows.ensures.count)) ∙ sym c.index.ensures in
@@ -50,7 +51,7 @@ add_first-requires-clause-told c =
     let line : List Choice = c.args.line.now in
     let s : ℕ = c.loop-p.p in
     let received = c.find_known-received.result in
-    let at : c.unwrap.result ≡ s = (rw c.unwrap.ensures at c.try_new.ensures).1 in
+    let at : c.unwrap-id.result ≡ s = (rw c.unwrap-id.ensures at c.try_new.ensures).1 in
     subst (λ (k : ℕ). AreMarksExact history line k c.base.result c.row.result.now
     c.args.kept.left.now) (sym at)
     (row-told history line c.args.kept.starts.now c.args.kept.places.now received.bases.items
@@ -58,13 +59,26 @@ add_first-requires-clause-told c =
     c.find_known-received.ensures.known c.find_known-received.ensures.noted c.base.ensures
     c.row.ensures.within c.row.ensures.same c.args.kept.left.now c.requires.left)
 
+pub add_first-requires-clause-quiet : goal.add_first-requires-clause-quiet
+add_first-requires-clause-quiet c = λ on.
+    let history : List Process = c.args.history.now.processes in
+    let line : List Choice = c.args.line.now in
+    let s : ℕ = c.loop-p.p in
+    let left : List MsgName = c.args.kept.left.now in
+    let received = c.find_known-received.result in
+    let at : c.unwrap-id.result ≡ s = (rw c.unwrap-id.ensures at c.try_new.ensures).1 in
+    old-unreceived history line c.args.kept.starts.now c.args.kept.places.now received.bases.items
+    left c.find_old-old.result c.unwrap-id.result c.base.result c.requires.left
+    c.find_old-old.ensures (sym c.has.ensures ∙ flipped c.has.result true on)
+    (c.base.ensures ∙ ap (start_at received.bases.items) (sym at))
+
 pub add_since-requires-clause-known : goal.add_since-requires-clause-known
 add_since-requires-clause-known c =
     let history : List Process = c.args.history.now.processes in
     let line : List Choice = c.args.line.now in
     let s : ℕ = c.loop-p.p in
     let received = c.find_known-received.result in
-    let at : c.unwrap.result ≡ s = (rw c.unwrap.ensures at c.try_new.ensures).1 in
+    let at : c.unwrap-id.result ≡ s = (rw c.unwrap-id.ensures at c.try_new.ensures).1 in
     let inside : s < length history = omega (arith, c.n-n.ensures.value) in
     subst (λ (k : ℕ). AreReceived history line k c.base.result c.row.result.now) (sym at)
     (row-received history line received.bases.items received.starts.items received.marks.items s
@@ -79,7 +93,7 @@ add_since-requires-clause-told c = λ on.
     let starts : List ℕ = c.args.kept.starts.now in
     let ends : List ℕ = c.as_slice-ends.result.now in
     let received = c.find_known-received.result in
-    let at : c.unwrap.result ≡ s = (rw c.unwrap.ensures at c.try_new.ensures).1 in
+    let at : c.unwrap-id.result ≡ s = (rw c.unwrap-id.ensures at c.try_new.ensures).1 in
     let are : AreEnds history starts line ends = subst (AreEnds history starts line)
     (sym c.as_slice-ends.ensures.value) c.in_ok-bounds.ensures in
     subst (λ (k : ℕ). AreMarksExactSince history line k
@@ -96,8 +110,8 @@ loop-p-preserved c =
     let of : ℕ → List MsgName = λ p. map (λ (letter : Letter). letter.message)
     (open_letters history line p) in
     let s : ℕ = c.loop-p.p in
-    let p : ℕ = c.unwrap.result in
-    let at : p ≡ s = (rw c.unwrap.ensures at c.try_new.ensures).1 in
+    let p : ℕ = c.unwrap-id.result in
+    let at : p ≡ s = (rw c.unwrap-id.ensures at c.try_new.ensures).1 in
     let older : List MsgName = c.loop-p.messages.items in
     let whole : open_first history line p c.in_ok-add_since.field-0 ≡ of p = ap (open_first history
     line p) (c.in_ok-add_since.ensures.all refl) ∙ open-all history line p in

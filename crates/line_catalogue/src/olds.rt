@@ -1,0 +1,95 @@
+//! Whose old messages are received between two lines: those from before the sender's base, which
+//! have no marks.
+ghost use Rattle.std.specs.Prelude.{◌≡◌, ◌<◌, ◌≤◌, ℕ, true, length, drop, Contains};
+ghost use Rattle.line_names.specs.declared.messages.MsgName.{MsgName};
+ghost use Rattle.line_names.specs.Sets.{is_member};
+ghost use Rattle.line_tape.specs.declared.events.Event.TheVariants.{Recv};
+ghost use Rattle.line_tape.specs.Line.{events_before, IsLine};
+ghost use Rattle.line_tape.specs.Shown.{event_of_ref};
+ghost use Rattle.line_catalogue.specs.Known.{AreOldNoted};
+ghost use Rattle.line_catalogue.specs.Left.{start_at};
+
+use crate::kept_lines::KeptLine;
+use crate::known::{Known, Receiver};
+use line_names::{Line, MsgName, ProcId, ProcSet};
+use line_tape::{EventRef, History};
+
+/// Whether none of the messages is from before its sender's base.
+fn are_none(known: &Known, messages: &[MsgName]) -> bool
+    ensures { result ≡ true → (message : MsgName) → Contains messages.now message
+        → start_at known.now.bases.items message.from ≤ message.number }
+{
+    for message in messages {
+        if message.number < known.base(message.from.get()) {
+            return false;
+        }
+    }
+    true
+}
+
+/// Notes the sender of what an event receives, if that is from before the sender's base.
+fn note_receipt(known: &Known, event: &EventRef<'_>, senders: &mut ProcSet)
+    ensures kept { (p : ℕ) → is_member senders.old p ≡ true → is_member senders.new p ≡ true }
+    ensures noted { (message : MsgName) → event_of_ref event.now ≡ Recv message
+        → message.number < start_at known.now.bases.items message.from
+        → is_member senders.new message.from ≡ true }
+{
+    match event {
+        EventRef::Recv { message } => {
+            if message.number < known.base(message.from.get()) {
+                *senders = senders.with(message.from);
+            }
+        }
+        EventRef::Send { .. } => {}
+        EventRef::Check { .. } => {}
+        EventRef::Mark { .. } => {}
+    }
+}
+
+/// Notes the senders of the old messages that a process receives after its place and before the
+/// line.
+fn note_receipts(
+    history: &History,
+    line: &Line,
+    receiver: Receiver,
+    known: &Known,
+    senders: &mut ProcSet,
+)
+    requires line { IsLine history.now.processes line.now }
+    requires process { receiver.p < length history.now.processes }
+    ensures kept { (p : ℕ) → is_member senders.old p ≡ true → is_member senders.new p ≡ true }
+    ensures noted { (message : MsgName)
+        → Contains (drop receiver.place (events_before history.now.processes line.now receiver.p))
+        (Recv message)
+        → message.number < start_at known.now.bases.items message.from
+        → is_member senders.new message.from ≡ true }
+{
+    let q = receiver.p;
+    let events = history.tape(q).front(line.at(q));
+    for i in receiver.place as usize..events.len() {
+        note_receipt(known, &events.at(i), senders);
+    }
+}
+
+/// The senders of which some old message that was kept is received after the places of the kept
+/// line and before the new line, and others. Where nothing old was kept no event is walked.
+pub fn find_old(history: &History, known: &Known, kept: KeptLine<'_>, line: &Line) -> ProcSet
+    requires line { IsLine history.now.processes line.now }
+    requires places { length kept.places.now ≡ length history.now.processes }
+    ensures { AreOldNoted history.now.processes line.now kept.entry.places.now
+        known.now.bases.items kept.entry.left.now result }
+{
+    let mut senders = ProcSet::empty();
+    if are_none(known, kept.left) {
+        return senders;
+    }
+    let n = history.n();
+    for q in 0..n {
+        let receiver = Receiver {
+            p: ProcId::try_new(q, n).unwrap(),
+            place: kept.places[q as usize],
+        };
+        note_receipts(history, line, receiver, known, &mut senders);
+    }
+    senders
+}
