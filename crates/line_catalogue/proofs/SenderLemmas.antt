@@ -1,14 +1,15 @@
 -- The messages of one process: where they stand among all, and what holds of them.
 use Rattle.std.proofs.Common.{◌≡◌, ℕ, ◌+◌, ◌-◌, ◌<◌, ◌≤◌, Bool, true, false, cond, leb, ltb, List}
 use Rattle.std.proofs.Common.{[], ◌∷◌, ◌++◌, ◌⊎◌, length, take, drop, get_or, map, filter, refl}
-use Rattle.std.proofs.Common.{sym, ap, ◌∙◌, subst, append-nil, arith, inl, inr}
+use Rattle.std.proofs.Common.{sym, ap, ◌∙◌, subst, append-nil, arith, inl, inr, slice_get, Some}
 use Rattle.std.specs.Prelude.{◌==◌}
 use Rattle.std.specs.List.{All, Contains, slice_range}
 use Rattle.std.specs.List.Sorted.{IsNonDecreasing, IsPartitionPoint}
 use Rattle.std.proofs.lemmas.Bool.{cases_lt, eq-eqb, eqb-true, leb-false, leb-true, ltb-false}
 use Rattle.std.proofs.lemmas.Bool.{ltb-true, ne_eqb}
 use Rattle.std.proofs.lemmas.List.{length-take, length-drop, length-map, get_or-map, get_or-drop}
-use Rattle.std.proofs.lemmas.List.{get_or-take, take-append-drop}
+use Rattle.std.proofs.lemmas.List.{get_or-take, get_or_default, take-append-drop}
+use Rattle.std.proofs.lemmas.Option.{get_or_from_slice_get}
 use Rattle.std.proofs.lemmas.List.Elements.{filter-append, filter_passes, All-head, All-tail}
 use Rattle.std.proofs.lemmas.List.Folds.{drop_split}
 use Rattle.std.proofs.lemmas.List.Kept.{AllPairs-filter}
@@ -174,3 +175,30 @@ gap-messages_of history line p end row left kept is empty order few held index a
     ]) in
     gap-to history line p end numbers few has a b up low
     (none_between numbers end index a b sorted passed low next)
+
+-- none of them has a number below that of the first
+pub first-least : (p : ℕ) (left : List MsgName) (first m : MsgName) → ComeInOrder left
+    → slice_get (messages_of p left) 0 ≡ Some first → Contains left m → m.from ≡ p
+    → first.number ≤ m.number
+first-least p left first m order is among from =
+    let own : List MsgName = messages_of p left in
+    let there = in-messages_of p left m from among in
+    let j : ℕ = there.0 in
+    let within : j < length own = there.1 in
+    let head : get_or own 0 first ≡ first = get_or_from_slice_get own 0 first first is in
+    let number : MsgName → ℕ = λ (x : MsgName). x.number in
+    elim (cases_lt 0 j) [
+      | inl later ↦ omega (
+        arith,
+        rising-messages_of p left order 0 j 0 later within,
+        get_or-map number own 0 first 0 (omega (arith, later, within)) ∙ ap number head,
+        get_or-map number own j m 0 within ∙ ap number there.2,
+      )
+      | inr start ↦
+          let at : j ≡ 0 = omega (arith, start) in
+          let same : first ≡ m = sym head
+          ∙ get_or_default own 0 first m (omega (arith, within, at))
+          ∙ ap (λ i. get_or own i m) (sym at) ∙ there.2
+          in
+          omega (arith, ap number same)
+    ]

@@ -1,26 +1,42 @@
 //! Whose old messages are received between two lines: those from before the sender's base, which
 //! have no marks.
-ghost use Rattle.std.specs.Prelude.{◌≡◌, ◌<◌, ◌≤◌, ℕ, true, length, drop, Contains};
+ghost use Rattle.std.specs.Prelude.{◌≡◌, ◌<◌, ◌≤◌, ℕ, false, true, length, drop, Contains};
 ghost use Rattle.line_names.specs.declared.messages.MsgName.{MsgName};
 ghost use Rattle.line_names.specs.Sets.{is_member};
 ghost use Rattle.line_tape.specs.declared.events.Event.TheVariants.{Recv};
 ghost use Rattle.line_tape.specs.Line.{events_before, IsLine};
 ghost use Rattle.line_tape.specs.Shown.{event_of_ref};
 ghost use Rattle.line_catalogue.specs.Known.{AreOldNoted};
-ghost use Rattle.line_catalogue.specs.Left.{start_at};
+ghost use Rattle.line_catalogue.specs.Left.{start_at, ComeInOrder};
 
 use crate::kept_lines::KeptLine;
 use crate::known::{Known, Receiver};
-use line_names::{Line, MsgName, ProcId, ProcSet};
+use crate::senders::sent_by;
+use line_names::{Line, MOST_PROCESSES, MsgName, ProcId, ProcSet};
 use line_tape::{EventRef, History};
 
-/// Whether none of the messages is from before its sender's base.
-fn are_none(known: &Known, messages: &[MsgName]) -> bool
-    ensures { result ≡ true → (message : MsgName) → Contains messages.now message
+/// Whether one of the messages of a process is from before its base: if one is, the first one is.
+fn has_old(known: &Known, messages: &[MsgName], p: ProcId) -> bool
+    requires { ComeInOrder messages.now }
+    ensures { result ≡ false → (message : MsgName) → Contains messages.now message
+        → message.from ≡ p → start_at known.now.bases.items p ≤ message.number }
+{
+    match sent_by(messages, p).first() {
+        Some(message) => message.number < known.base(p.get()),
+        None => false,
+    }
+}
+
+/// Whether none of the messages of `n` processes is from before its sender's base.
+fn are_none(known: &Known, messages: &[MsgName], n: u32) -> bool
+    requires few { n ≤ MOST_PROCESSES }
+    requires order { ComeInOrder messages.now }
+    ensures { result ≡ true → (message : MsgName) → message.from < n
+        → Contains messages.now message
         → start_at known.now.bases.items message.from ≤ message.number }
 {
-    for message in messages {
-        if message.number < known.base(message.from.get()) {
+    for q in 0..n {
+        if has_old(known, messages, ProcId::try_new(q, n).unwrap()) {
             return false;
         }
     }
@@ -76,14 +92,15 @@ fn note_receipts(
 pub fn find_old(history: &History, known: &Known, kept: KeptLine<'_>, line: &Line) -> ProcSet
     requires line { IsLine history.now.processes line.now }
     requires places { length kept.places.now ≡ length history.now.processes }
+    requires order { ComeInOrder kept.left.now }
     ensures { AreOldNoted history.now.processes line.now kept.entry.places.now
         known.now.bases.items kept.entry.left.now result }
 {
+    let n = history.n();
     let mut senders = ProcSet::empty();
-    if are_none(known, kept.left) {
+    if are_none(known, kept.left, n) {
         return senders;
     }
-    let n = history.n();
     for q in 0..n {
         let receiver = Receiver {
             p: ProcId::try_new(q, n).unwrap(),
