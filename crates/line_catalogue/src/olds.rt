@@ -11,7 +11,7 @@ ghost use Rattle.line_catalogue.specs.Left.{start_at, ComeInOrder};
 
 use crate::kept_lines::KeptLine;
 use crate::known::{Known, Receiver};
-use crate::senders::sent_by;
+use crate::senders::messages_of;
 use line_names::{Line, MOST_PROCESSES, MsgName, ProcId, ProcSet};
 use line_tape::{EventRef, History};
 
@@ -21,7 +21,7 @@ fn has_old(known: &Known, messages: &[MsgName], p: ProcId) -> bool
     ensures { result ≡ false → (message : MsgName) → Contains messages.now message
         → message.from ≡ p → start_at known.now.bases.items p ≤ message.number }
 {
-    match sent_by(messages, p).first() {
+    match messages_of(messages, p).first() {
         Some(message) => message.number < known.base(p.get()),
         None => false,
     }

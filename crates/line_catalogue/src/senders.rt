@@ -134,7 +134,7 @@ fn is_open(history: &History, line: &Line, sender: &Sender<'_>, message: &MsgNam
 }
 
 /// Those of the messages that a process sent. It searches for them by halves.
-pub fn sent_by<'a>(messages: &'a [MsgName], p: ProcId) -> &'a [MsgName]
+pub fn messages_of<'a>(messages: &'a [MsgName], p: ProcId) -> &'a [MsgName]
     requires { IsNonDecreasingBy (λ (message : MsgName). message.from) messages.now }
     ensures { result.now ≡ messages_of p messages.now }
 {
@@ -166,7 +166,7 @@ pub fn add_first(
     ensures { OnOk result (messages.new.items ≡ messages.old.items
         ++ open_first history.now.processes line.now sender.now.p sender.now.end) }
 {
-    let kept = sent_by(sender.left, sender.p);
+    let kept = messages_of(sender.left, sender.p);
     if sender.row.is_empty() {
         for message in kept {
             if message.number < sender.end && is_open(history, line, sender, message) {

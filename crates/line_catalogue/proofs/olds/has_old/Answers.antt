@@ -13,7 +13,7 @@ pub returns-in-Some : goal.returns-in-Some
 returns-in-Some c = λ low m among from.
     let first : slice_get (messages_of c.args.p c.args.messages.now) 0
     ≡ Some c.in-Some.message.now = sym (c.in-Some.ensures.value
-    ∙ ap (λ (xs : List MsgName). slice_get xs 0) c.sent_by.ensures) in
+    ∙ ap (λ (xs : List MsgName). slice_get xs 0) c.messages_of.ensures) in
     elim (cases_lt c.in-Some.message.now.number c.base.result) [
       | inl old ↦ absurd
           (false≢true (sym low ∙ lt-ltb c.in-Some.message.now.number c.base.result old))
@@ -31,5 +31,5 @@ returns-in-None c = λ _ m among from.
     let own : List MsgName = messages_of c.args.p c.args.messages.now in
     let there = in-messages_of c.args.p c.args.messages.now m from among in
     let none : None ≡ slice_get own 0 = c.in-None.ensures.value
-    ∙ ap (λ (xs : List MsgName). slice_get xs 0) c.sent_by.ensures in
+    ∙ ap (λ (xs : List MsgName). slice_get xs 0) c.messages_of.ensures in
     absurd (none-some (get_or own 0 m) (none ∙ slice_get-get_or own 0 m (omega (arith, there.1))))

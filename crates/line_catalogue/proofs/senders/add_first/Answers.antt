@@ -22,8 +22,8 @@ use Rattle.line_catalogue.proofs.senders.add_first.Goals.{else-message-sender-vi
 use Rattle.line_catalogue.proofs.senders.add_first.Goals.{else-message-sender-via-else-message-sender}
 use Rattle.line_catalogue.proofs.senders.add_first.Goals as goal
 
-pub sent_by-kept-requires : goal.sent_by-kept-requires
-sent_by-kept-requires c = c.requires.order.senders
+pub messages_of-kept-requires : goal.messages_of-kept-requires
+messages_of-kept-requires c = c.requires.order.senders
 
 pub loop-message-init : goal.loop-message-init
 loop-message-init c = λ b low passed next.
@@ -32,16 +32,16 @@ loop-message-init c = λ b low passed next.
     let old : List MsgName = c.args.messages.now.items in
     sym (append-nil old) ∙ ap (λ (xs : List MsgName). old ++ xs)
     (gap-messages_of history line c.args.sender.now.p c.args.sender.now.end
-    c.args.sender.now.row.now c.args.sender.now.left.now c.sent_by-kept.result.now
-    c.sent_by-kept.ensures
+    c.args.sender.now.row.now c.args.sender.now.left.now c.messages_of-kept.result.now
+    c.messages_of-kept.ensures
     (c.is_empty.ensures.0 c.if-is_empty.true) c.requires.order c.requires.end c.requires.held 0
     0 b (omega arith) low (λ j l. absurd (omega (arith, l))) next)
 
 pub is_open-requires-clause-own : goal.is_open-requires-clause-own
 is_open-requires-clause-own c =
     let p : ℕ = c.args.sender.now.p in
-    let is : c.sent_by-kept.result.now
-    ≡ messages_of p c.args.sender.now.left.now = c.sent_by-kept.ensures in
+    let is : c.messages_of-kept.result.now
+    ≡ messages_of p c.args.sender.now.left.now = c.messages_of-kept.ensures in
     ap (λ (x : MsgName). x.from) c.message-item.is ∙ subst
     (All (λ (x : MsgName). x.from ≡ p)) (sym is)
     (from-messages_of p c.args.sender.now.left.now) c.loop-message.message-index
@@ -51,7 +51,7 @@ pub is_open-requires-clause-kept : goal.is_open-requires-clause-kept
 is_open-requires-clause-kept c =
     let m : MsgName = c.message-item.result in
     among-messages_of c.args.sender.now.p c.args.sender.now.left.now m
-    (subst (λ (ms : List MsgName). Contains ms m) c.sent_by-kept.ensures
+    (subst (λ (ms : List MsgName). Contains ms m) c.messages_of-kept.ensures
     (c.loop-message.message-index, omega arith, sym c.message-item.is))
 
 pub loop-message-preserved : goal.loop-message-preserved
@@ -61,8 +61,8 @@ loop-message-preserved c = λ b low passed next.
     let p : ℕ = c.args.sender.now.p in
     let end : ℕ = c.args.sender.now.end in
     let left : List MsgName = c.args.sender.now.left.now in
-    let kept : List MsgName = c.sent_by-kept.result.now in
-    let is : kept ≡ messages_of p left = c.sent_by-kept.ensures in
+    let kept : List MsgName = c.messages_of-kept.result.now in
+    let is : kept ≡ messages_of p left = c.messages_of-kept.ensures in
     let row : List ℕ = map (λ (m : MsgName). m.number) kept in
     let old : List MsgName = c.args.messages.now.items in
     let i : ℕ = c.loop-message.message-index in
@@ -138,7 +138,7 @@ loop-message-preserved c = λ b low passed next.
 
 pub returns-then-is_empty : goal.returns-then-is_empty
 returns-then-is_empty c =
-    let kept : List MsgName = c.sent_by-kept.result.now in
+    let kept : List MsgName = c.messages_of-kept.result.now in
     let row : List ℕ = map (λ (m : MsgName). m.number) kept in
     c.loop-message.invariant c.args.sender.now.end (omega arith)
     (λ j l. elim (cases_lt (get_or row j 0) c.args.sender.now.end) [
@@ -160,4 +160,4 @@ add_old-requires-clause-held c = λ q m from low sent unseen.
     ] in
     subst (λ (row : List ℕ). Contains row m.number) (sym c.as_slice-row.ensures)
     (c.in_ok-both.ensures.kept m.number (subst (λ (ms : List MsgName). Contains
-    (of ms ++ old) m.number) (sym c.sent_by-kept.ensures) among))
+    (of ms ++ old) m.number) (sym c.messages_of-kept.ensures) among))

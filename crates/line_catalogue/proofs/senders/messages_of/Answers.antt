@@ -4,7 +4,7 @@ use Rattle.std.proofs.lemmas.List.Sorted.{IsPartitionPoint-from_clause, IsPartit
 use Rattle.std.proofs.lemmas.List.Sorted.{IsPartitionedBy-ltb}
 use Rattle.line_names.specs.declared.messages.MsgName.{MsgName}
 use Rattle.line_catalogue.proofs.SenderLemmas.{part_ascends, part_sent}
-use Rattle.line_catalogue.proofs.senders.sent_by.Goals as goal
+use Rattle.line_catalogue.proofs.senders.messages_of.Goals as goal
 
 pub slice_bounds-result-count : goal.slice_bounds-result-count
 slice_bounds-result-count c =
