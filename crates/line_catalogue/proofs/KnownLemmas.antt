@@ -227,16 +227,15 @@ left-unheard history kept places left q m are among sent c =
 pub old-unreceived : (history : List Process) (line : List Choice) (kept places bases : List ℕ)
     (left : List MsgName) (senders : List Bool) (p base : ℕ) → AreLeft history kept places left
     → AreOldNoted history line places bases left senders → is_member senders p ≡ false
-    → base ≡ start_at bases p → p < length history → AreOldUnreceived history line p base left
-old-unreceived history line kept places bases left senders p base are noted unnoted is inside =
+    → base ≡ start_at bases p → AreOldUnreceived history line p base left
+old-unreceived history line kept places bases left senders p base are noted unnoted is =
     λ q m among from old sent. elim (has_received (events_before history line q) m) as
     (λ (b : Bool). has_received (events_before history line q) m ≡ b → b ≡ false) [
       | true ↦ λ r.
           let behind = received-behind history line places q m
           (left-unheard history kept places left q m are among sent) r in
           absurd (false≢true (sym unnoted ∙ ap (is_member senders) (sym from) ∙ noted q m behind.0
-          (omega (arith, from, inside)) among behind.1
-          (omega (arith, old, is, ap (start_at bases) from))))
+          among behind.1 (omega (arith, old, is, ap (start_at bases) from))))
       | false ↦ λ r. refl
     ] refl
 

@@ -1,7 +1,7 @@
 -- The messages of one process: where they stand among all, and what holds of them.
 use Rattle.std.proofs.Common.{◌≡◌, ℕ, ◌+◌, ◌-◌, ◌<◌, ◌≤◌, Bool, true, false, cond, leb, ltb, List}
 use Rattle.std.proofs.Common.{[], ◌∷◌, ◌++◌, ◌⊎◌, length, take, drop, get_or, map, filter, refl}
-use Rattle.std.proofs.Common.{sym, ap, ◌∙◌, subst, append-nil, arith, inl, inr, slice_get, Some}
+use Rattle.std.proofs.Common.{sym, ap, ◌∙◌, subst, append-nil, arith, inl, inr}
 use Rattle.std.specs.Prelude.{◌==◌}
 use Rattle.std.specs.List.{All, Contains, slice_range}
 use Rattle.std.specs.List.Sorted.{IsNonDecreasing, IsPartitionPoint}
@@ -9,7 +9,6 @@ use Rattle.std.proofs.lemmas.Bool.{cases_lt, eq-eqb, eqb-true, leb-false, leb-tr
 use Rattle.std.proofs.lemmas.Bool.{ltb-true, ne_eqb}
 use Rattle.std.proofs.lemmas.List.{length-take, length-drop, length-map, get_or-map, get_or-drop}
 use Rattle.std.proofs.lemmas.List.{get_or-take, get_or_default, take-append-drop}
-use Rattle.std.proofs.lemmas.Option.{get_or_from_slice_get}
 use Rattle.std.proofs.lemmas.List.Elements.{filter-append, filter_passes, All-head, All-tail}
 use Rattle.std.proofs.lemmas.List.Folds.{drop_split}
 use Rattle.std.proofs.lemmas.List.Kept.{AllPairs-filter}
@@ -176,29 +175,60 @@ gap-messages_of history line p end row left kept is empty order few held index a
     gap-to history line p end numbers few has a b up low
     (none_between numbers end index a b sorted passed low next)
 
--- none of them has a number below that of the first
-pub first-least : (p : ℕ) (left : List MsgName) (first m : MsgName) → ComeInOrder left
-    → slice_get (messages_of p left) 0 ≡ Some first → Contains left m → m.from ≡ p
-    → first.number ≤ m.number
-first-least p left first m order is among from =
-    let own : List MsgName = messages_of p left in
-    let there = in-messages_of p left m from among in
-    let j : ℕ = there.0 in
-    let within : j < length own = there.1 in
-    let head : get_or own 0 first ≡ first = get_or_from_slice_get own 0 first first is in
-    let number : MsgName → ℕ = λ (x : MsgName). x.number in
-    elim (cases_lt 0 j) [
-      | inl later ↦ omega (
-        arith,
-        rising-messages_of p left order 0 j 0 later within,
-        get_or-map number own 0 first 0 (omega (arith, later, within)) ∙ ap number head,
-        get_or-map number own j m 0 within ∙ ap number there.2,
-      )
-      | inr start ↦
-          let at : j ≡ 0 = omega (arith, start) in
-          let same : first ≡ m = sym head
-          ∙ get_or_default own 0 first m (omega (arith, within, at))
-          ∙ ap (λ i. get_or own i m) (sym at) ∙ there.2
-          in
-          omega (arith, ap number same)
-    ]
+-- a place that is no later and no earlier
+start-is : (at j : ℕ) → at ≤ j → j ≤ at → at ≡ j
+start-is at j later start = omega (arith, later, start)
+
+-- what comes from one message on up to where the next sender begins is from the same sender, and
+-- has no lower number
+pub group-least : (messages : List MsgName) (at next j : ℕ) (first m : MsgName)
+    → ComeInOrder messages → get_or messages at first ≡ first
+    → IsPartitionPoint (λ (x : MsgName). leb x.from first.from ≡ true)
+    (λ (x : MsgName). leb x.from first.from ≡ false) messages next
+    → at ≤ j → j < next → j < length messages → get_or messages j m ≡ m
+    → (m.from ≡ first.from) × (first.number ≤ m.number)
+group-least messages at next j first m order is last later before within there =
+    let here : get_or messages at m ≡ first = get_or_default messages at m first
+    (omega (arith, later, within)) ∙ is in
+    let low : first.from ≤ m.from = omega (
+      arith,
+      order.senders at j m later within,
+      ap (λ (x : MsgName). x.from) here,
+      ap (λ (x : MsgName). x.from) there,
+    )
+    in
+    let high : m.from ≤ first.from = leb-true m.from first.from
+    (ap (λ (x : MsgName). leb x.from first.from) (sym there)
+    ∙ last.0 j m (omega arith) before)
+    in
+    let same : m.from ≡ first.from = omega (arith, low, high) in (
+      same,
+      elim (cases_lt at j) [
+        | inl after ↦ omega (
+          arith,
+          order.numbers at j m after within (ap (λ (x : MsgName). x.from) here ∙ sym same
+              ∙ ap (λ (x : MsgName). x.from) (sym there)),
+          ap (λ (x : MsgName). x.number) here,
+          ap (λ (x : MsgName). x.number) there,
+        )
+        | inr start ↦ omega (
+          arith,
+          ap (λ (x : MsgName). x.number) (sym here ∙ ap (λ i. get_or messages i m)
+              (start-is at j later start) ∙ there),
+        )
+      ],
+    )
+
+-- and there is one at least
+pub group-goes : (messages : List MsgName) (at next : ℕ) (first : MsgName)
+    → get_or messages at first ≡ first → at < length messages
+    → IsPartitionPoint (λ (x : MsgName). leb x.from first.from ≡ true)
+    (λ (x : MsgName). leb x.from first.from ≡ false) messages next → at < next
+group-goes messages at next first is within last = elim (cases_lt at next) [
+  | inl goes ↦ goes
+  | inr stays ↦ absurd (omega (
+    arith,
+    leb-false (get_or messages at first).from first.from (last.1 at first stays within),
+    ap (λ (x : MsgName). x.from) is,
+  ))
+]

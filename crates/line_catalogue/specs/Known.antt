@@ -102,7 +102,6 @@ AreAllReceiptsMarked history line places bases starts marks =
 abbrev pub AreOldNoted : List Process → List Choice → List ℕ → List ℕ → List MsgName → List Bool
     → Type 0
 AreOldNoted history line places bases left senders =
-    (q : ℕ) (message : MsgName) → q < length history → message.from < length history
-    → Contains left message
+    (q : ℕ) (message : MsgName) → q < length history → Contains left message
     → Contains (drop (place_at places q) (events_before history line q)) (Recv message)
     → message.number < start_at bases message.from → is_member senders message.from ≡ true

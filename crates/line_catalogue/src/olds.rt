@@ -11,34 +11,25 @@ ghost use Rattle.line_catalogue.specs.Left.{start_at, ComeInOrder};
 
 use crate::kept_lines::KeptLine;
 use crate::known::{Known, Receiver};
-use crate::senders::messages_of;
-use line_names::{Line, MOST_PROCESSES, MsgName, ProcId, ProcSet};
+use line_names::{Line, MsgName, ProcId, ProcSet};
 use line_tape::{EventRef, History};
 
-/// Whether one of the messages of a process is from before its base: if one is, the first one is.
-fn has_old(known: &Known, messages: &[MsgName], p: ProcId) -> bool
+/// Whether none of the messages is from before its sender's base. They come by sender and then by
+/// number, so the first of each sender tells; where the next sender begins is searched for by
+/// halves.
+fn are_none(known: &Known, messages: &[MsgName]) -> bool
     requires { ComeInOrder messages.now }
-    ensures { result ≡ false → (message : MsgName) → Contains messages.now message
-        → message.from ≡ p → start_at known.now.bases.items p ≤ message.number }
-{
-    match messages_of(messages, p).first() {
-        Some(message) => message.number < known.base(p.get()),
-        None => false,
-    }
-}
-
-/// Whether none of the messages of `n` processes is from before its sender's base.
-fn are_none(known: &Known, messages: &[MsgName], n: u32) -> bool
-    requires few { n ≤ MOST_PROCESSES }
-    requires order { ComeInOrder messages.now }
-    ensures { result ≡ true → (message : MsgName) → message.from < n
-        → Contains messages.now message
+    ensures { result ≡ true → (message : MsgName) → Contains messages.now message
         → start_at known.now.bases.items message.from ≤ message.number }
 {
-    for q in 0..n {
-        if has_old(known, messages, ProcId::try_new(q, n).unwrap()) {
+    let mut at = 0;
+    while at < messages.len() {
+        let first = messages[at];
+        let p = first.from;
+        if first.number < known.base(p.get()) {
             return false;
         }
+        at = messages.partition_point(|message| message.from.get() <= p.get());
     }
     true
 }
@@ -98,7 +89,7 @@ pub fn find_old(history: &History, known: &Known, kept: KeptLine<'_>, line: &Lin
 {
     let n = history.n();
     let mut senders = ProcSet::empty();
-    if are_none(known, kept.left, n) {
+    if are_none(known, kept.left) {
         return senders;
     }
     for q in 0..n {

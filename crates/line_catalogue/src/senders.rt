@@ -134,7 +134,7 @@ fn is_open(history: &History, line: &Line, sender: &Sender<'_>, message: &MsgNam
 }
 
 /// Those of the messages that a process sent. It searches for them by halves.
-pub fn messages_of<'a>(messages: &'a [MsgName], p: ProcId) -> &'a [MsgName]
+fn messages_of<'a>(messages: &'a [MsgName], p: ProcId) -> &'a [MsgName]
     requires { IsNonDecreasingBy (λ (message : MsgName). message.from) messages.now }
     ensures { result.now ≡ messages_of p messages.now }
 {

@@ -29,15 +29,9 @@ loop-q-preserved c = λ q m l among old.
     ]
 
 pub returns-then-are_none : goal.returns-then-are_none
-returns-then-are_none c = λ q m l from left among old. absurd
-    (omega (
-      arith,
-      c.are_none.ensures c.if-are_none.true m (omega (arith, from, c.n-n.ensures.value))
-          left,
-      old,
-    ))
+returns-then-are_none c = λ q m l left among old. absurd
+    (omega (arith, c.are_none.ensures c.if-are_none.true m left, old))
 
 pub returns : goal.returns
-returns c =
-    λ q m l from left among old. c.loop-q.invariant q m (omega (arith, l, c.n-n.ensures.value))
+returns c = λ q m l left among old. c.loop-q.invariant q m (omega (arith, l, c.n-n.ensures.value))
     among old

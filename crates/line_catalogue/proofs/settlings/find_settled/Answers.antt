@@ -96,7 +96,6 @@ settle_sender-requires-clause-quiet c = λ on.
     left c.find_old-old.result c.unwrap-id.result c.base.result c.requires.left
     c.find_old-old.ensures (sym c.has.ensures ∙ flipped c.has.result true on)
     (c.base.ensures ∙ ap (start_at received.bases.items) (sym at))
-    (omega (arith, at, c.n-n.ensures.value))
 
 pub loop-p-preserved : goal.loop-p-preserved
 loop-p-preserved c =

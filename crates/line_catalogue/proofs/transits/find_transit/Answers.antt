@@ -71,7 +71,6 @@ add_first-requires-clause-quiet c = λ on.
     left c.find_old-old.result c.unwrap-id.result c.base.result c.requires.left
     c.find_old-old.ensures (sym c.has.ensures ∙ flipped c.has.result true on)
     (c.base.ensures ∙ ap (start_at received.bases.items) (sym at))
-    (omega (arith, at, c.n-n.ensures.value))
 
 pub add_since-requires-clause-known : goal.add_since-requires-clause-known
 add_since-requires-clause-known c =
