@@ -10,7 +10,7 @@ use Rattle.line_vectors.specs.declared.parts.TheConstants.{PART}
 use Rattle.line_vectors.specs.Parts.{part_count, place_in_parts}
 use Rattle.line_vectors.proofs.PartLemmas.{lane-parted, length-parted}
 use Rattle.line_catalogue.specs.declared.kept_rows.KeptRow.{KeptRow}
-use Rattle.line_catalogue.specs.declared.rows.TheConstants.{MOST_PARTS}
+use Rattle.line_catalogue.specs.declared.laid.TheConstants.{MOST_PARTS}
 use Rattle.line_catalogue.specs.Laid.{AreAmong, AreHeld, EndWith, IsAmong, starts_at}
 use Rattle.line_catalogue.specs.Laid.{vector_after, width_of}
 use Rattle.line_catalogue.specs.Rows.{new_row}

@@ -14,7 +14,7 @@ use Rattle.std.proofs.lemmas.Nat.{mul-le}
 use Rattle.std.proofs.Math.Nat.{add-mul}
 use Rattle.line_names.specs.declared.limits.TheConstants.{MOST_PROCESSES}
 use Rattle.line_tape.specs.declared.limits.TheConstants.{MOST_EVENTS}
-use Rattle.line_catalogue.specs.declared.rows.TheConstants.{NOT_LAID}
+use Rattle.line_catalogue.specs.declared.laid.TheConstants.{NOT_LAID}
 use Rattle.line_names.specs.declared.choices.Choice.TheVariants.{Check as AtCheck}
 use Rattle.line_tape.specs.declared.events.Event.{Event}
 use Rattle.line_tape.specs.Front.{place}

@@ -10,7 +10,7 @@ use Rattle.std.proofs.lemmas.List.{get_or-take, length-take-le, take_all}
 use Rattle.line_vectors.specs.declared.parts.TheConstants.{PART}
 use Rattle.line_vectors.specs.Parts.{parted, part_count, place_in_parts}
 use Rattle.line_vectors.proofs.PartLemmas.{lane-parted, length-parted, part-at, part-length}
-use Rattle.line_catalogue.specs.declared.rows.TheConstants.{NOT_LAID}
+use Rattle.line_catalogue.specs.declared.laid.TheConstants.{NOT_LAID}
 use Rattle.line_catalogue.specs.Laid.{AreHeld, EndWith, IsAmong, starts_at, vector_after}
 
 -- a part that is laid after the others is held, and so are those that were

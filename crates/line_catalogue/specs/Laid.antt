@@ -6,7 +6,7 @@ use Rattle.line_vectors.specs.declared.parts.TheConstants.{PART}
 use Rattle.line_vectors.specs.Parts.{lane_in_parts, parted, part_count, place_in_parts}
 use Rattle.line_catalogue.specs.declared.kept_rows.KeptRow.{KeptRow}
 use Rattle.line_catalogue.specs.declared.kept_rows.Row.{Row}
-use Rattle.line_catalogue.specs.declared.rows.TheConstants.{NOT_LAID}
+use Rattle.line_catalogue.specs.declared.laid.TheConstants.{NOT_LAID}
 
 -- what n lanes take among the lanes of all, if no part is shared: the lanes, and where each part
 -- begins

@@ -1,17 +1,15 @@
 //! A history that agrees, with its marks of damage and its bars.
 ghost use Rattle.std.specs.Prelude.{◌≡◌, ◌≢◌, ◌<◌, ◌≤◌, ◌+◌, ◌↔◌, ◌⊎◌, ℕ, [], List, length};
-ghost use Rattle.std.specs.Prelude.{replicate, slice_index, IfOk, IsOk, OnOk, OnErr, IsErrOf};
+ghost use Rattle.std.specs.Prelude.{replicate, IfOk, IsOk, OnOk, OnErr, IsErrOf};
 ghost use Rattle.std.specs.Prelude.{IsTrue};
 ghost use Rattle.std.specs.Prelude.{IfSome};
 ghost use Rattle.std.specs.Option.{SomeIff};
 ghost use Rattle.line_names.specs.declared.choices.Choice.{Choice};
-ghost use Rattle.line_names.specs.declared.choices.Choice.TheVariants.{Now};
 ghost use Rattle.line_names.specs.Order.{IsNoLater};
 ghost use Rattle.line_tape.specs.Chain.{latest_check, next_lower};
 ghost use Rattle.line_tape.specs.Event.{checks, HasLongState, NamesBelow};
 ghost use Rattle.line_tape.specs.History.{fresh, tape_at, with_event, IsHistory};
-ghost use Rattle.line_tape.specs.Front.{front, HasChoice};
-ghost use Rattle.line_tape.specs.Line.{IsLine, IsConsistent, AreSentBefore};
+ghost use Rattle.line_tape.specs.Line.{IsLine, IsConsistent};
 ghost use Rattle.line_tape.specs.Restart.{restarted_history, restarted_marks, HaveFurther};
 ghost use Rattle.line_tape.specs.Survival.{survives, is_barred, is_damaged};
 ghost use Rattle.line_tape.specs.Transit.{in_transit};
@@ -20,10 +18,9 @@ ghost use Rattle.line_catalogue.specs.Agreement.{Agrees, AgreesNext};
 ghost use Rattle.line_catalogue.specs.Damage.{AreOnChecks};
 ghost use Rattle.line_catalogue.specs.Rows.{AreRows};
 ghost use Rattle.line_catalogue.specs.Views.{catalogue_room_at};
-ghost use Rattle.line_vectors.specs.Reach.{reach_before, sents_of};
-ghost use Rattle.line_vectors.specs.Vectors.{Fits};
 
 mod appends;
+mod vectors;
 
 use crate::agreement::{agrees, are_on_checks};
 use crate::kept_rows::Rows;
@@ -33,7 +30,6 @@ use crate::strangers::find_strangers;
 use crate::tables::RowTable;
 use line_names::{Choice, Line, MOST_PROCESSES, MsgName, ProcId, ProcSet};
 use line_tape::{BarError, CountError, Event, History, MOST_EVENTS, Marks};
-use line_vectors::ReachRef;
 use std::alloc::{AllocError, Global};
 use std::marker::Model;
 
@@ -205,32 +201,6 @@ impl Catalogue {
                 failed,
             )),
         }
-    }
-
-    /// The vector of a choice of a process: for each process one more than the greatest number
-    /// received from it before the choice, or 0. It costs nothing.
-    ///
-    /// It fits the sends before a line exactly where each message received before the choice is
-    /// sent before the line.
-    pub fn reach(&self, p: ProcId, choice: Choice) -> ReachRef<'_>
-        requires process { p < length self.now.processes }
-        requires choice { HasChoice (tape_at self.now.processes p) choice }
-        ensures value { result ≡ reach_before self.now.processes p choice }
-        ensures decides { (line : List Choice) → Fits result (sents_of self.now.processes line)
-            ↔ AreSentBefore self.now.processes line (front (tape_at self.now.processes p) choice) }
-    {
-        let _n = self.ledger.history().n();
-        self.rows.reach(p, choice)
-    }
-
-    /// One more than the greatest number that a process has received from another one, at any time,
-    /// or 0: the lane of `p` in the vector of where `q` stands. It costs nothing.
-    pub fn heard(&self, q: ProcId, p: ProcId) -> u32
-        requires hearer { q < length self.now.processes }
-        requires process { p < length self.now.processes }
-        ensures { result ≡ slice_index (reach_before self.now.processes q Now) p }
-    {
-        self.rows.present(q).lane(p)
     }
 
     /// Makes room for so many further events of a process: its next `k` additions take no memory.

@@ -14,6 +14,7 @@ mod ends;
 mod kept_lines;
 mod kept_rows;
 mod known;
+mod laid;
 mod laws;
 mod ledgers;
 mod numbers;

@@ -16,6 +16,7 @@ ghost use Rattle.line_catalogue.specs.Rows.{row_added};
 ghost use Rattle.line_catalogue.specs.Rows.{rows_kept, vector_at, with_damage, with_row};
 
 use crate::kept_rows::{KeptRow, Rows};
+use crate::laid::{MOST_PARTS, NOT_LAID, lay};
 use line_names::{Choice, MOST_PROCESSES, MsgName};
 use line_tape::{Event, EventRef, MOST_EVENTS, Tape};
 use line_vectors::{LAST_NUMBER, PART, Reach, ReachRef, part_count, part_of_lanes};
@@ -56,64 +57,6 @@ impl Model for ProcessRows {
     ghost invariant = { λ p. AreLaid p.lanes.items p.rows.items p.heard p.starts p.present
         × HaveRowRoom p.room (vec_capacity p.rows - vec_len p.rows)
         (vec_capacity p.lanes - vec_len p.lanes) (width_of (length p.present)) };
-}
-
-/// In place of where a part begins: it was changed since it was laid.
-const NOT_LAID: u32 = u32::MAX;
-
-/// How many parts a vector has at most.
-const MOST_PARTS: usize = 16;
-
-/// Lays a part of the vector of where a process stands after the other lanes, unless it was not
-/// changed since it was laid, in room that was made for it.
-fn lay_part(lanes: &mut Vec<u32>, present: &Reach, starts: &mut [u32; MOST_PARTS], k: usize)
-    requires part { k < part_count (length present.now) }
-    requires few_parts { part_count (length present.now) ≤ MOST_PARTS }
-    requires held { AreHeld lanes.old.items starts.old present.now }
-    requires few { vec_len lanes.old < NOT_LAID }
-    requires room { vec_len lanes.old + min PART (length present.now - k * PART)
-        ≤ vec_capacity lanes.old }
-    ensures kept { take (vec_len lanes.old) lanes.new.items ≡ lanes.old.items }
-    ensures longer { vec_len lanes.old ≤ vec_len lanes.new }
-    ensures few { vec_len lanes.new
-        ≤ vec_len lanes.old + min PART (length present.now - k * PART) }
-    ensures held { AreHeld lanes.new.items starts.new present.now }
-    ensures count { length starts.new ≡ MOST_PARTS }
-    ensures laid { slice_index starts.new k ≢ NOT_LAID }
-    ensures others { (j : ℕ) → j ≢ k → slice_index starts.new j ≡ slice_index starts.old j }
-    ensures capacity { vec_capacity lanes.old ≤ vec_capacity lanes.new }
-{
-    if starts[k] == NOT_LAID {
-        let start = lanes.len() as u32;
-        lanes
-            .extend_from_slice(part_of_lanes(present.lanes(), k))
-            .unwrap();
-        starts[k] = start;
-    }
-}
-
-/// Puts the vector of where a process stands after the others, unless it is the last of them
-/// already, in room that was made for it: the parts that were changed, and then where all parts
-/// begin.
-fn lay(lanes: &mut Vec<u32>, present: &Reach, starts: &mut [u32; MOST_PARTS], heard: bool)
-    requires held { AreHeld lanes.old.items starts.old present.now }
-    requires last { heard ≡ false → EndWith lanes.old.items present.now }
-    requires few { vec_len lanes.old + width_of (length present.now) < NOT_LAID }
-    requires room { vec_len lanes.old + width_of (length present.now) ≤ vec_capacity lanes.old }
-    ensures kept { take (vec_len lanes.old) lanes.new.items ≡ lanes.old.items }
-    ensures longer { vec_len lanes.old ≤ vec_len lanes.new }
-    ensures held { AreHeld lanes.new.items starts.new present.now }
-    ensures last { EndWith lanes.new.items present.now }
-    ensures len { vec_len lanes.new ≤ vec_len lanes.old + width_of (length present.now) }
-    ensures capacity { vec_capacity lanes.old ≤ vec_capacity lanes.new }
-{
-    if heard {
-        let parts = part_count(present.n());
-        for k in 0..parts {
-            lay_part(lanes, present, starts, k);
-        }
-        lanes.extend_from_slice(&starts[..parts]).unwrap();
-    }
 }
 
 /// Lets go of the rows and vectors after a choice, whose vector becomes that of where the process

@@ -1,11 +1,11 @@
 //! Catalogues: what they take, refuse and show.
 use crate::tests::build::{Did, catalogue_of, failed, history_of, process};
+use crate::tests::parts::{are_same_lanes, has_lanes};
 use crate::tests::{DOMINO, ROUND, passed, reads};
 use line_catalogue::{AddError, Catalogue, CatalogueError, DamageError, Row};
 use line_names::{Body, Choice, Line, MsgName, Passed, ProcId, ProcSet};
 use line_plan::{PlanError, plan};
 use line_tape::{BarError, Event, History, Marks};
-use line_vectors::ReachRef;
 use std::alloc::Global;
 use std::test::Fail;
 
@@ -36,36 +36,6 @@ fn made_of(alloc: Global, history: &History) -> Result<Catalogue, Fail> {
 fn made_at_once(alloc: Global, all: &[Did]) -> Result<Catalogue, Fail> {
     let history = history_of(alloc, all)?;
     made_of(alloc, &history)
-}
-
-/// Whether a vector has these lanes.
-fn has_lanes(reach: &ReachRef<'_>, lanes: &[u32]) -> bool {
-    let n = reach.n();
-    if lanes.len() != n {
-        return false;
-    }
-    for p in 0..n {
-        let lane = reach.lane(ProcId::try_new(p as u32, n as u32).unwrap());
-        if lane != lanes[p] {
-            return false;
-        }
-    }
-    true
-}
-
-/// Whether two vectors have the same lanes.
-fn are_same_lanes(one: &ReachRef<'_>, other: &ReachRef<'_>) -> bool {
-    let n = one.n();
-    if other.n() != n {
-        return false;
-    }
-    for q in 0..n {
-        let p = ProcId::try_new(q as u32, n as u32).unwrap();
-        if one.lane(p) != other.lane(p) {
-            return false;
-        }
-    }
-    true
 }
 
 /// Whether two rows tell the same of a check.

@@ -8,6 +8,36 @@ use std::test::Fail;
 
 const PROCESSES: u32 = 18;
 
+/// Whether a vector has these lanes.
+pub fn has_lanes(reach: &ReachRef<'_>, lanes: &[u32]) -> bool {
+    let n = reach.n();
+    if lanes.len() != n {
+        return false;
+    }
+    for p in 0..n {
+        let lane = reach.lane(ProcId::try_new(p as u32, n as u32).unwrap());
+        if lane != lanes[p] {
+            return false;
+        }
+    }
+    true
+}
+
+/// Whether two vectors have the same lanes.
+pub fn are_same_lanes(one: &ReachRef<'_>, other: &ReachRef<'_>) -> bool {
+    let n = one.n();
+    if other.n() != n {
+        return false;
+    }
+    for q in 0..n {
+        let p = ProcId::try_new(q as u32, n as u32).unwrap();
+        if one.lane(p) != other.lane(p) {
+            return false;
+        }
+    }
+    true
+}
+
 /// The first process receives a message of another one, and takes a check.
 fn hears(alloc: Global, catalogue: &mut Catalogue, from: u32) -> Result<(), Fail> {
     let to = ProcId::try_new(0, PROCESSES)?;

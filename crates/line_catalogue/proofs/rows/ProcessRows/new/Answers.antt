@@ -3,7 +3,7 @@ use Rattle.std.proofs.Common.{◌∷◌, [], ℕ, false, List, length, map, ap, 
 use Rattle.std.proofs.Common.{arith}
 use Rattle.std.specs.Prelude.{replicate}
 use Rattle.std.proofs.lemmas.List.{length-replicate}
-use Rattle.line_catalogue.specs.declared.rows.TheConstants.{MOST_PARTS}
+use Rattle.line_catalogue.specs.declared.laid.TheConstants.{MOST_PARTS}
 use Rattle.line_catalogue.specs.Laid.{row_of}
 use Rattle.line_catalogue.specs.Rows.{new_row}
 use Rattle.line_catalogue.proofs.FirstRows.{first-shows}

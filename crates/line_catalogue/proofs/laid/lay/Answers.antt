@@ -1,7 +1,7 @@
 -- Once all parts are laid it is told where they begin.
 use Rattle.std.proofs.Common.{arith}
 use Rattle.line_catalogue.proofs.LayLemmas.{told-of}
-use Rattle.line_catalogue.proofs.rows.lay.Goals as goal
+use Rattle.line_catalogue.proofs.laid.lay.Goals as goal
 
 pub returns-after-loop-k-clause-last : goal.returns-after-loop-k-clause-last
 returns-after-loop-k-clause-last c =

@@ -5,7 +5,7 @@ use Rattle.std.proofs.lemmas.List.{length-set}
 use Rattle.line_vectors.specs.declared.parts.TheConstants.{PART}
 use Rattle.line_vectors.proofs.PartLemmas.{part-length}
 use Rattle.line_catalogue.proofs.LayLemmas.{part-laid}
-use Rattle.line_catalogue.proofs.rows.lay_part.Goals as goal
+use Rattle.line_catalogue.proofs.laid.lay_part.Goals as goal
 
 -- how long the part is
 long : (present lanes part : List ℕ) (k : ℕ) → k * PART < length present → lanes ≡ present

@@ -1,9 +1,9 @@
 use Rattle.std.proofs.Common.{◌≡◌, ◌≢◌, ◌+◌, ◌*◌, ◌<◌, ◌≤◌, ℕ, length, get_or, take, vec_capacity}
 use Rattle.line_vectors.specs.declared.parts.TheConstants.{PART}
 use Rattle.line_vectors.specs.Parts.{part_count}
-use Rattle.line_catalogue.specs.declared.rows.TheConstants.{MOST_PARTS, NOT_LAID}
+use Rattle.line_catalogue.specs.declared.laid.TheConstants.{MOST_PARTS, NOT_LAID}
 use Rattle.line_catalogue.specs.Laid.{AreHeld}
-use Rattle.line_catalogue.proofs.rows.lay.Given as goal
+use Rattle.line_catalogue.proofs.laid.lay.Given as goal
 
 -- the first parts are laid, and what was laid before stands where it did
 abbrev pub invariant-loop-k : goal.invariant-loop-k
