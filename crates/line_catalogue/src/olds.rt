@@ -1,6 +1,7 @@
 //! Whose old messages are received between two lines: those from before the sender's base, which
 //! have no marks.
-ghost use Rattle.std.specs.Prelude.{◌≡◌, ◌<◌, ◌≤◌, ℕ, false, true, length, drop, Contains};
+ghost use Rattle.std.specs.Prelude.{◌≡◌, ◌<◌, ◌≤◌, ℕ, Bool, false, true, List, length, drop};
+ghost use Rattle.std.specs.Prelude.{Contains, IfSome, Some};
 ghost use Rattle.line_names.specs.declared.messages.MsgName.{MsgName};
 ghost use Rattle.line_names.specs.Sets.{is_member};
 ghost use Rattle.line_tape.specs.declared.events.Event.TheVariants.{Recv};
@@ -13,6 +14,10 @@ use crate::kept_lines::KeptLine;
 use crate::known::{Known, Receiver};
 use line_names::{Line, MsgName, ProcId, ProcSet};
 use line_tape::{EventRef, History};
+
+// So many messages for each process have to be kept, before it is asked whether some are old: it
+// costs about as much for each sender as a third of the search for one old message.
+const KEPT_FOR_A_LOOK: usize = 16;
 
 /// Whether none of the messages is from before its sender's base. They come by sender and then by
 /// number, so the first of each sender tells; where the next sender begins is searched for by
@@ -79,18 +84,27 @@ fn note_receipts(
 }
 
 /// The senders of which some old message that was kept is received after the places of the kept
-/// line and before the new line, and others. Where nothing old was kept no event is walked.
-pub fn find_old(history: &History, known: &Known, kept: KeptLine<'_>, line: &Line) -> ProcSet
+/// line and before the new line, and others; none where so few messages were kept that searching
+/// for each old one costs less. Where nothing old was kept no event is walked.
+pub fn find_old(
+    history: &History,
+    known: &Known,
+    kept: KeptLine<'_>,
+    line: &Line,
+) -> Option<ProcSet>
     requires line { IsLine history.now.processes line.now }
     requires places { length kept.places.now ≡ length history.now.processes }
     requires order { ComeInOrder kept.left.now }
-    ensures { AreOldNoted history.now.processes line.now kept.entry.places.now
-        known.now.bases.items kept.entry.left.now result }
+    ensures { IfSome result (λ senders. AreOldNoted history.now.processes line.now
+        kept.entry.places.now known.now.bases.items kept.entry.left.now senders) }
 {
     let n = history.n();
+    if kept.left.len() / (n as usize) < KEPT_FOR_A_LOOK {
+        return None;
+    }
     let mut senders = ProcSet::empty();
     if are_none(known, kept.left) {
-        return senders;
+        return Some(senders);
     }
     for q in 0..n {
         let receiver = Receiver {
@@ -99,5 +113,16 @@ pub fn find_old(history: &History, known: &Known, kept: KeptLine<'_>, line: &Lin
         };
         note_receipts(history, line, receiver, known, &mut senders);
     }
-    senders
+    Some(senders)
+}
+
+/// Whether it is known that a process is not among the senders.
+pub fn is_quiet(senders: &Option<ProcSet>, p: ProcId) -> bool
+    ensures { result ≡ true → (set : List Bool) × (senders.now ≡ Some set)
+        × (is_member set p ≡ false) }
+{
+    match senders {
+        Some(senders) => !senders.has(p),
+        None => false,
+    }
 }

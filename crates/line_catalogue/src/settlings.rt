@@ -11,7 +11,7 @@ use crate::candidates::candidates;
 use crate::ends::ends_before;
 use crate::kept_lines::KeptLine;
 use crate::known::find_known;
-use crate::olds::find_old;
+use crate::olds::{find_old, is_quiet};
 use crate::senders::{Sender, add_first, add_since};
 use line_names::{Line, MsgName, ProcId, ProcSet};
 use line_tape::History;
@@ -112,7 +112,7 @@ pub fn find_settled(
             base: received.base(p),
             marks: received.row(p),
             closed: false,
-            quiet: !old.has(id),
+            quiet: is_quiet(&old, id),
         };
         let start = settle_sender(history, line, &sender, credit, &mut messages)?;
         moved.push_reserved(start);

@@ -8,7 +8,7 @@ use crate::candidates::candidates;
 use crate::ends::ends_before;
 use crate::kept_lines::KeptLine;
 use crate::known::find_known;
-use crate::olds::find_old;
+use crate::olds::{find_old, is_quiet};
 use crate::senders::{Sender, add_first, add_since};
 use line_names::{Line, MsgName, ProcId, ProcSet};
 use line_tape::History;
@@ -49,7 +49,7 @@ pub fn find_transit(
             base: received.base(p),
             marks: received.row(p),
             closed: kept.closed,
-            quiet: !old.has(id),
+            quiet: is_quiet(&old, id),
         };
         add_first(history, line, &sender, &mut messages)?;
         add_since(history, line, &sender, None, &mut messages)?;

@@ -1,6 +1,7 @@
 -- One sender more.
 use Rattle.std.proofs.Common.{◌≡◌, ◌<◌, ◌≤◌, ◌+◌, ◌++◌, ◌∷◌, [], List, ℕ, length, sym, ap, ◌∙◌}
-use Rattle.std.proofs.Common.{subst, true, arith, inl, inr}
+use Rattle.std.proofs.Common.{subst, arith, inl, inr}
+use Rattle.std.specs.Prelude.{Bool, IfSome, Option}
 use Rattle.std.specs.List.{Contains}
 use Rattle.std.proofs.lemmas.Bool.{cases_lt}
 use Rattle.std.proofs.lemmas.List.Elements.{Contains-append_left}
@@ -10,12 +11,12 @@ use Rattle.line_names.specs.declared.messages.MsgName.{MsgName}
 use Rattle.line_tape.specs.Event.{sends}
 use Rattle.line_tape.specs.History.{Process}
 use Rattle.line_tape.specs.Line.{events_before}
+use Rattle.line_catalogue.specs.Known.{AreOldNoted}
 use Rattle.line_catalogue.specs.Known.{AreReceived, AreMarksExact}
 use Rattle.line_catalogue.specs.Left.{numbers_at, open_first, start_at, AreEnds, HasOpenBeside}
 use Rattle.line_catalogue.specs.Left.{HaveLeft}
 use Rattle.line_catalogue.proofs.KnownLemmas.{old-unreceived, row-received, row-told}
 use Rattle.line_catalogue.proofs.LeftLemmas.{ends-more, has-open, have-open}
-use Rattle.line_catalogue.proofs.OpenLemmas.{flipped}
 use Rattle.line_catalogue.proofs.OrderLemmas.{below-first, below-next, below-none, AreOpenBelow}
 use Rattle.line_catalogue.proofs.settlings.find_settled.Goals as goal
 
@@ -92,10 +93,12 @@ settle_sender-requires-clause-quiet c = λ on.
     let left : List MsgName = c.args.kept.left.now in
     let received = c.find_known-received.result in
     let at : c.unwrap-id.result ≡ s = (rw c.unwrap-id.ensures at c.try_new.ensures).1 in
+    let (senders, some, unnoted) = c.is_quiet.ensures on in
     old-unreceived history line c.args.kept.starts.now c.args.kept.places.now received.bases.items
-    left c.find_old-old.result c.unwrap-id.result c.base.result c.requires.left
-    c.find_old-old.ensures (sym c.has.ensures ∙ flipped c.has.result true on)
-    (c.base.ensures ∙ ap (start_at received.bases.items) (sym at))
+    left senders c.unwrap-id.result c.base.result c.requires.left
+    (subst (λ (found : Option (List Bool)). IfSome found (λ (set : List Bool). AreOldNoted history
+    line c.args.kept.places.now received.bases.items left set)) some c.find_old-old.ensures)
+    unnoted (c.base.ensures ∙ ap (start_at received.bases.items) (sym at))
 
 pub loop-p-preserved : goal.loop-p-preserved
 loop-p-preserved c =

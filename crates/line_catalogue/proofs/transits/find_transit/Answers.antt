@@ -1,6 +1,7 @@
 -- One sender more: what is to be looked at has all that is in transit.
 use Rattle.std.proofs.Common.{◌≡◌, ◌<◌, ◌+◌, ◌++◌, ◌∷◌, [], List, ℕ, suc, length, map, refl, sym}
-use Rattle.std.proofs.Common.{true, ap, ◌∙◌, subst, arith}
+use Rattle.std.proofs.Common.{ap, ◌∙◌, subst, arith}
+use Rattle.std.specs.Prelude.{Bool, IfSome, Option}
 use Rattle.std.specs.List.{flat_map, range_with_len}
 use Rattle.std.proofs.lemmas.List.{flat_map_more, get_or_default}
 use Rattle.line_names.specs.declared.choices.Choice.{Choice}
@@ -8,12 +9,13 @@ use Rattle.line_names.specs.declared.messages.MsgName.{MsgName}
 use Rattle.line_tape.specs.History.{Process}
 use Rattle.line_tape.specs.Transit.{Letter, open_letters}
 use Rattle.line_tape.proofs.TransitLemmas.{range-push}
+use Rattle.line_catalogue.specs.Known.{AreOldNoted}
 use Rattle.line_catalogue.specs.Known.{AreReceived, AreMarksExact, AreMarksExactSince}
 use Rattle.line_catalogue.specs.Left.{numbers_at, open_first, start_at, AreEnds, HasOpenBeside}
 use Rattle.line_catalogue.proofs.KnownLemmas.{old-unreceived, row-received, row-told}
 use Rattle.line_catalogue.proofs.KnownLemmas.{row-told-since}
 use Rattle.line_catalogue.proofs.LeftLemmas.{has-open}
-use Rattle.line_catalogue.proofs.OpenLemmas.{flipped, open-all}
+use Rattle.line_catalogue.proofs.OpenLemmas.{open-all}
 use Rattle.line_catalogue.proofs.transits.find_transit.Goals as goal
 
 pub loop-p-init : goal.loop-p-init
@@ -67,10 +69,12 @@ add_first-requires-clause-quiet c = λ on.
     let left : List MsgName = c.args.kept.left.now in
     let received = c.find_known-received.result in
     let at : c.unwrap-id.result ≡ s = (rw c.unwrap-id.ensures at c.try_new.ensures).1 in
+    let (senders, some, unnoted) = c.is_quiet.ensures on in
     old-unreceived history line c.args.kept.starts.now c.args.kept.places.now received.bases.items
-    left c.find_old-old.result c.unwrap-id.result c.base.result c.requires.left
-    c.find_old-old.ensures (sym c.has.ensures ∙ flipped c.has.result true on)
-    (c.base.ensures ∙ ap (start_at received.bases.items) (sym at))
+    left senders c.unwrap-id.result c.base.result c.requires.left
+    (subst (λ (found : Option (List Bool)). IfSome found (λ (set : List Bool). AreOldNoted history
+    line c.args.kept.places.now received.bases.items left set)) some c.find_old-old.ensures)
+    unnoted (c.base.ensures ∙ ap (start_at received.bases.items) (sym at))
 
 pub add_since-requires-clause-known : goal.add_since-requires-clause-known
 add_since-requires-clause-known c =
